@@ -1,0 +1,5 @@
+-- The laws of lists written over lists and of numbers as bytes.
+pub mod Over
+pub mod Bytes
+pub mod Same
+pub mod Fills

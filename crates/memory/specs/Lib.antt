@@ -1,0 +1,3 @@
+-- The definitions that the contracts of `memory` cite.
+pub mod Bytes
+pub mod Lists
