@@ -1,16 +1,15 @@
--- Comparing two lists, element by element and by eight bytes. Assumes nothing.
+-- Comparing two lists of bytes, by eight and then what is left. Assumes nothing.
 use mathlib.Core.Path.{_≡_, refl, sym, ap, ap₂, _∙_}
-use Prim.Native.Nat.{ℕ, suc, _+_, _≤_, _<_}
+use Prim.Native.Nat.{ℕ, suc, _+_, _-_, _≤_, _<_}
 use mathlib.Core.Bool.{Bool, true, false, _&&_, and-assoc, and-false}
 use mathlib.Core.List.{List, [], _∷_, _++_}
 use native.Mathlib.Omega.{arith}
-use native.Mathlib.Numerals.{add-one}
 use native.Mathlib.Nat.{suc-inj}
-use lib.ListN.{length, getD, take, drop, length-drop, take-append-drop, drop-of-length-le}
-use lib.Seq.{drop-cons, drop-drop, length-take-le}
+use lib.ListN.{length, take, drop, length-drop, take-append-drop}
+use lib.Seq.{drop-drop, length-take-le, take-all}
 use lib.Dec.{eqb}
 use borrow.Author.Tests.{eq-eqb, ne-eqb}
-use Rattle.memory.specs.Bytes.{number}
+use Rattle.memory.specs.Bytes.{valueOf, number}
 use Rattle.memory.specs.Lists.{same}
 use Rattle.memory.proofs.Bytes.{Bytes, bytes-drop, bytes-take, value-same}
 
@@ -29,36 +28,45 @@ same-lengths [] (y ∷ b) h = refl
 same-lengths (x ∷ a) [] h = refl
 same-lengths (x ∷ a) (y ∷ b) h = rw (same-lengths a b (λ e. h (ap suc e))) (and-false (eqb x y))
 
--- the compare from i on, by one element
-module _ (a b : List ℕ) (i : ℕ) (e : length a ≡ length b) where
-  step : i < length a → same (drop i a) (drop i b) ≡ (eqb (getD a i 0) (getD b i 0) && same (drop (i + 1) a) (drop (i + 1) b))
-  unfolding same
-  step h = let k : i < length b = omega arith in rw (add-one, drop-cons a i 0 h, drop-cons b i 0 k) refl
+-- the first i bytes of two equally long lists are equal, and the rest decides
+pub record Comparing (a b : List ℕ) (i : ℕ) : Type 0 where
+  pub within : i ≤ length a
+  pub is : same (drop i a) (drop i b) ≡ same a b
 
-  pub same-here : i < length a → getD a i 0 ≡ getD b i 0 → same (drop i a) (drop i b) ≡ same (drop (i + 1) a) (drop (i + 1) b)
-  same-here h q = step h ∙ rw (eq-eqb _ _ q) refl
+module _ (a b : List ℕ) (e : length a ≡ length b) (ba : Bytes a) (bb : Bytes b) where
+  pub compare-start : Comparing a b 0
+  compare-start = record { within = omega arith; is = refl }
 
-  pub other-here : i < length a → (getD a i 0 ≡ getD b i 0 → ⊥) → same (drop i a) (drop i b) ≡ false
-  other-here h q = step h ∙ rw (ne-eqb _ _ q) refl
+  module _ (i : ℕ) (g : Comparing a b i) where
+    -- by eight bytes
+    module _ (h : 8 ≤ length a - i) where
+      eight : same (drop i a) (drop i b) ≡ (eqb (number 8 i a) (number 8 i b) && same (drop (i + 8) a) (drop (i + 8) b))
+      eight =
+          let la : length (take 8 (drop i a)) ≡ 8 = length-take-le 8 (drop i a) (rw length-drop (omega arith)) in
+          let lb : length (take 8 (drop i b)) ≡ 8 = length-take-le 8 (drop i b) (rw length-drop (omega arith)) in
+          ap₂ same (sym (take-append-drop 8 (drop i a))) (sym (take-append-drop 8 (drop i b)))
+          ∙ same-append (take 8 (drop i a)) (drop 8 (drop i a)) (take 8 (drop i b)) (drop 8 (drop i b)) (la ∙ sym lb)
+          ∙ ap₂ _&&_
+          (sym (value-same (take 8 (drop i a)) (take 8 (drop i b)) (bytes-take 8 (drop i a) (bytes-drop i a ba)) (bytes-take 8 (drop i b) (bytes-drop i b bb)) (la ∙ sym lb)))
+          (ap₂ same (drop-drop 8 i a) (drop-drop 8 i b))
 
-  pub same-end : length a ≤ i → same (drop i a) (drop i b) ≡ true
-  unfolding same
-  same-end h = let k : length b ≤ i = omega arith in rw (drop-of-length-le a h, drop-of-length-le b k) refl
+      pub compare-next : (x y : ℕ) → x ≡ number 8 i a → y ≡ number 8 i b → x ≡ y → Comparing a b (i + 8)
+      compare-next x y p q r =
+          let t = eq-eqb (number 8 i a) (number 8 i b) (sym p ∙ r ∙ q) in
+          let f : same (drop i a) (drop i b) ≡ same (drop (i + 8) a) (drop (i + 8) b) = eight ∙ rw t refl in
+          record { within = omega arith; is = sym f ∙ g .is }
 
-  -- and by eight bytes
-  module _ (ba : Bytes a) (bb : Bytes b) (h : i + 8 ≤ length a) where
-    eight : same (drop i a) (drop i b) ≡ (eqb (number 8 i a) (number 8 i b) && same (drop (i + 8) a) (drop (i + 8) b))
-    eight =
-        let la : length (take 8 (drop i a)) ≡ 8 = length-take-le 8 (drop i a) (rw length-drop (omega arith)) in
-        let lb : length (take 8 (drop i b)) ≡ 8 = length-take-le 8 (drop i b) (rw length-drop (omega arith)) in
-        ap₂ same (sym (take-append-drop 8 (drop i a))) (sym (take-append-drop 8 (drop i b)))
-        ∙ same-append (take 8 (drop i a)) (drop 8 (drop i a)) (take 8 (drop i b)) (drop 8 (drop i b)) (la ∙ sym lb)
-        ∙ ap₂ _&&_
-        (sym (value-same (take 8 (drop i a)) (take 8 (drop i b)) (bytes-take 8 (drop i a) (bytes-drop i a ba)) (bytes-take 8 (drop i b) (bytes-drop i b bb)) (la ∙ sym lb)))
-        (ap₂ same (drop-drop 8 i a) (drop-drop 8 i b))
+      pub compare-differs : (x y : ℕ) → x ≡ number 8 i a → y ≡ number 8 i b → (x ≡ y → ⊥) → false ≡ same a b
+      compare-differs x y p q r =
+          let t = ne-eqb (number 8 i a) (number 8 i b) (λ z. r (p ∙ z ∙ sym q)) in
+          let f : same (drop i a) (drop i b) ≡ false = eight ∙ rw t refl in
+          sym f ∙ g .is
 
-    pub same-eight : number 8 i a ≡ number 8 i b → same (drop i a) (drop i b) ≡ same (drop (i + 8) a) (drop (i + 8) b)
-    same-eight q = eight ∙ rw (eq-eqb _ _ q) refl
-
-    pub other-eight : (number 8 i a ≡ number 8 i b → ⊥) → same (drop i a) (drop i b) ≡ false
-    other-eight q = eight ∙ rw (ne-eqb _ _ q) refl
+    -- and what is left, as two numbers
+    pub compare-rest : (x y : ℕ) → x ≡ valueOf (take (length a - i) (drop i a)) → y ≡ valueOf (take (length a - i) (drop i b)) → eqb x y ≡ same a b
+    compare-rest x y p q =
+        let la : length (drop i a) ≡ length a - i = length-drop i a in
+        let lb : length (drop i b) ≡ length a - i = length-drop i b ∙ ap (λ (n : ℕ). n - i) (sym e) in
+        let ta : take (length a - i) (drop i a) ≡ drop i a = take-all (length a - i) (drop i a) (omega arith) in
+        let tb : take (length a - i) (drop i b) ≡ drop i b = take-all (length a - i) (drop i b) (omega arith) in
+        ap₂ eqb (p ∙ ap valueOf ta) (q ∙ ap valueOf tb) ∙ value-same (drop i a) (drop i b) (bytes-drop i a ba) (bytes-drop i b bb) (la ∙ sym lb) ∙ g .is

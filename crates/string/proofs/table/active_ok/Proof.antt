@@ -1,0 +1,15 @@
+-- `string::table::active_ok` meets its contract. Assumes nothing.
+use mathlib.Core.Path.{refl}
+use Rattle.string.specs.Sound.{activeOk}
+use borrow.Author.Needs.{needs}
+use Rattle.string.proofs.table.active_ok.Statement.{statement}
+use Rattle.string.proofs.table.active_ok.Tie as tie
+
+returns : tie.Need-returns
+unfolding activeOk
+returns c = rw (c .slot-count .ensures) refl
+
+pub active-ok-spec : {M : Type 1} → statement M
+active-ok-spec =
+    tie.close
+    (tie.spec (λ c κs. search needs) returns)
