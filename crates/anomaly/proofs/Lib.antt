@@ -1,0 +1,2 @@
+-- Laws of the numbers of ends and refusals.
+pub mod Numbers

@@ -1,0 +1,2 @@
+-- The definitions that the contracts of `anomaly` cite.
+pub mod Table

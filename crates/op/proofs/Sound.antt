@@ -1,0 +1,194 @@
+-- What callers may use of `decode` and `check`: the operands of a decoded instruction are in range, a word that an image may
+-- hold is an instruction that names only what is there, and which numbers refuse. Assumes nothing.
+use Prim.Native.Nat.{ℕ, zero, suc, _≤_, _<_, _^_}
+use mathlib.Core.Bool.{Bool, true, false, cond, _&&_}
+use mathlib.Core.List.{List, [], _∷_}
+use mathlib.Core.Path.{_≡_, refl, sym, subst}
+use native.Mathlib.Omega.{arith}
+use lib.Dec.{ltb}
+use lib.ListN.{getD}
+use borrow.Author.Tests.{ltb-true}
+use Rattle.op.specs.Layout.{partsOf, holds, passes, isAlignment, Field, unused, register, switchKind, allocKind, alignment, anyByte, anyNumber}
+use Rattle.op.specs.Decode.{Row, row, absent, rowOf, checkedOf, decodedBy, decodeOf}
+use Rattle.op.specs.Reach.{reachOf, insideOf, within, judged, checkOf}
+use Rattle.op.specs.Operands.{okOp, Within}
+use Rattle.op.specs.declared.word.Parts.{Parts}
+use Rattle.op.specs.declared.Op.{Op}
+use Rattle.op.specs.declared.Decoded.{Decoded}
+use Rattle.op.specs.declared.Reach.{Reach}
+use Rattle.op.specs.declared.Reach.the-variants.{Nothing, Code, Global, SwitchTable, LookupTable}
+use Rattle.op.specs.declared.Counts.{Counts}
+use Rattle.op.specs.declared.Checked.{Checked}
+use Rattle.op.proofs.Formats.{Format, format, none, formatOf, formats, table, format-at}
+
+-- ---- From the tests of a word to what they test ----
+
+both : (a b : Bool) → (a && b) ≡ true → (a ≡ true) × (b ≡ true)
+both true b h = (refl, h)
+both false b h = (h, cc)
+
+abbrev Holds : Field → ℕ → Type 0
+Holds unused n = n < 1
+Holds register n = n < 32
+Holds switchKind n = n < 2
+Holds allocKind n = n < 4
+Holds alignment n = isAlignment n ≡ true
+Holds anyByte n = n < 256
+Holds anyNumber n = n < 2 ^ 32
+
+tested : (f : Field) (n : ℕ) → holds f n ≡ true → Holds f n
+tested unused n h = ltb-true n 1 h
+tested register n h = ltb-true n 32 h
+tested switchKind n h = ltb-true n 2 h
+tested allocKind n h = ltb-true n 4 h
+tested alignment n h = h
+tested anyByte n h = ltb-true n 256 h
+tested anyNumber n h = ltb-true n (2 ^ 32) h
+
+record In (a b c n : Field) (p : Parts) : Type 0 where
+  one : Holds a (p .one)
+  two : Holds b (p .two)
+  three : Holds c (p .three)
+  number : Holds n (p .number)
+
+parts-in : (one two three number : Field) (p : Parts) → passes one two three number p ≡ true → In one two three number p
+parts-in one two three number p h =
+    let all = both (holds one (p .one) && holds two (p .two) && holds three (p .three)) (holds number (p .number)) h in
+    let bytes = both (holds one (p .one) && holds two (p .two)) (holds three (p .three)) (all .0) in
+    let first = both (holds one (p .one)) (holds two (p .two)) (bytes .0) in
+    record {
+      one = tested one (p .one) (first .0);
+      two = tested two (p .two) (first .1);
+      three = tested three (p .three) (bytes .1);
+      number = tested number (p .number) (all .1);
+    }
+
+-- ---- The operands of each format ----
+
+abbrev Sound : Format → Type 0
+Sound (format one two three number reach ok) = (p : Parts) → p .target < 2 ^ 16 → In one two three number p → ok p
+Sound none = Unit {0}
+
+abbrev AllSound : List Format → Type 0
+AllSound [] = Unit {0}
+AllSound (f ∷ fs) = Sound f × AllSound fs
+
+sound-at : (fs : List Format) → AllSound fs → (k : ℕ) → Sound (getD fs k none)
+sound-at [] all k = tt
+sound-at (f ∷ fs) all zero = all .0
+sound-at (f ∷ fs) all (suc k) = sound-at fs (all .1) k
+
+-- a pair, for a long one that reads down the page
+infixr 5 _also_
+_also_ : {A B : Type 0} → A → B → A × B
+a also b = (a, b)
+
+-- in the order of `formats`
+all-sound : AllSound formats
+unfolding formats
+all-sound =
+    tt also
+    (λ p t h. (h .one, h .two, h .three)) also
+    (λ p t h. (h .one, h .two)) also
+    (λ p t h. (h .one, h .two)) also
+    (λ p t h. h .one) also
+    (λ p t h. (h .one, h .number)) also
+    (λ p t h. t) also
+    (λ p t h. (h .one, t)) also
+    (λ p t h. (h .one, t)) also
+    (λ p t h. (h .one, h .number, t)) also
+    (λ p t h. (h .one, h .two, h .number)) also
+    (λ p t h. (h .three, h .one, h .two, h .number)) also
+    (λ p t h. h .number) also
+    (λ p t h. (h .one, h .two, h .number, h .three)) also
+    (λ p t h. (h .one, h .number, h .two)) also
+    (λ p t h. (h .one, h .two, h .number)) also
+    (λ p t h. h .one) also
+    (λ p t h. tt) also
+    tt
+
+sound-row : (k : ℕ) → Sound (formatOf (rowOf k))
+sound-row k = subst Sound (sym (format-at k)) (sound-at formats all-sound (getD table k 0))
+
+-- ---- Decoded words ----
+
+abbrev pub okDecoded : Decoded → Type 0
+okDecoded (Decoded.Op op) = okOp op
+okDecoded (Decoded.Refused k) = (12 ≤ k) × (k ≤ 13)
+
+by-test : (fits : Bool) (op : Op) → (fits ≡ true → okOp op) → okDecoded (checkedOf fits op)
+by-test true op h = h refl
+by-test false op h = omega arith
+
+by-row : (r : Row) (p : Parts) → p .target < 2 ^ 16 → Sound (formatOf r) → okDecoded (decodedBy r p)
+unfolding decodedBy
+by-row (row one two three number op) p target sound =
+    by-test (passes one two three number p) (op p) (λ h. sound p target (parts-in one two three number p h))
+by-row absent p target sound = omega arith
+
+pub ok-decoded : (w : ℕ) → okDecoded (decodeOf w)
+unfolding decodeOf
+ok-decoded w = by-row (rowOf (partsOf w .opcode)) (partsOf w) (omega arith) (sound-row (partsOf w .opcode))
+
+-- every decoded instruction has its operands in range
+pub ok-op : (w : ℕ) (op : Op) → decodeOf w ≡ Decoded.Op op → okOp op
+ok-op w op h = rw h at (ok-decoded w)
+
+pub decode-refuses : (w k : ℕ) → decodeOf w ≡ Decoded.Refused k → (12 ≤ k) × (k ≤ 13)
+decode-refuses w k h = rw h at (ok-decoded w)
+
+-- ---- Checked words ----
+
+-- a word that an image with these counts may hold
+pub record Runs (n : Counts) (w : ℕ) : Type 0 where
+  pub op : Op
+  pub decodes : decodeOf w ≡ Decoded.Op op
+  pub ok : okOp op
+  pub there : Within n (reachOf op)
+
+module _ (n : Counts) (w : ℕ) where
+  abbrev OkChecked : Checked → Type 0
+  OkChecked Checked.Fine = Runs n w
+  OkChecked (Checked.Refused k) = (12 ≤ k) × (k ≤ 15)
+
+  by-count : (at count refusal : ℕ) → (12 ≤ refusal) × (refusal ≤ 15) → (at < count → Runs n w) → OkChecked (insideOf at count refusal)
+  by-count at count refusal range runs = go (ltb at count) refl
+    where
+      go : (test : Bool) → ltb at count ≡ test → OkChecked (cond test Checked.Fine (Checked.Refused refusal))
+      go true h = runs (ltb-true at count h)
+      go false h = range
+
+  by-reach : (op : Op) → decodeOf w ≡ Decoded.Op op → (r : Reach) → (Within n r → Within n (reachOf op)) → OkChecked (within n r)
+  by-reach op e r there = go r (λ h. record { op = op; decodes = e; ok = ok-op w op e; there = there h })
+    where
+      go : (r : Reach) → (Within n r → Runs n w) → OkChecked (within n r)
+      go Nothing runs = runs tt
+      go (Code at) runs = by-count at (n .code) 14 (omega arith) runs
+      go (Global at) runs = by-count at (n .globals) 15 (omega arith) runs
+      go (SwitchTable at) runs = by-count at (n .switches) 15 (omega arith) runs
+      go (LookupTable at) runs = by-count at (n .lookups) 15 (omega arith) runs
+
+  by-decoded : (d : Decoded) → decodeOf w ≡ d → OkChecked (judged n d)
+  by-decoded (Decoded.Op op) e = by-reach op e (reachOf op) (λ h. h)
+  by-decoded (Decoded.Refused k) e = let h = decode-refuses w k e in omega arith
+
+  ok-checked : OkChecked (checkOf n w)
+  unfolding checkOf
+  ok-checked = by-decoded (decodeOf w) refl
+
+  pub fine : checkOf n w ≡ Checked.Fine → Runs n w
+  fine h = rw h at ok-checked
+
+  pub check-refuses : (k : ℕ) → checkOf n w ≡ Checked.Refused k → (12 ≤ k) × (k ≤ 15)
+  check-refuses k h = rw h at ok-checked
+
+  -- what a loop knows of a checked word that it decoded
+  pub fine-op : (op : Op) → checkOf n w ≡ Checked.Fine → decodeOf w ≡ Decoded.Op op → okOp op × Within n (reachOf op)
+  fine-op op h e =
+      let runs = fine h in
+      let word = runs .decodes in
+      let same : runs .op ≡ op = cc in
+      (ok-op w op e, subst (λ (o : Op). Within n (reachOf o)) same (runs .there))
+
+  pub fine-decodes : (k : ℕ) → checkOf n w ≡ Checked.Fine → decodeOf w ≡ Decoded.Refused k → ⊥
+  fine-decodes k h e = let runs = fine h in let q = runs .decodes in let z : _≡_ {A = ℕ} 0 1 = cc in omega arith

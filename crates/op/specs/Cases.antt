@@ -1,0 +1,54 @@
+-- Words and what they mean, worked out by computation. Definitions only.
+use Prim.Native.Nat.{ℕ, _-_, _^_}
+use mathlib.Core.List.{List, [], _∷_, map}
+use mathlib.Core.Path.{_≡_, refl}
+use Rattle.op.specs.Decode.{decodeOf, decodedBy, rows}
+use Rattle.op.specs.Reach.{checkOf}
+use Rattle.op.specs.declared.Op.the-variants.{IAddI, LoadI, JmpSNe, Switch, Lookup, Alloc, Store, Halt}
+use Rattle.op.specs.declared.Decoded.{Decoded}
+use Rattle.op.specs.declared.Counts.{Counts}
+use Rattle.op.specs.declared.Checked.{Checked}
+
+-- the worked image of document 01; the operands that stand apart from the rule; each way to be refused
+words : List (ℕ × Decoded)
+words =
+    (0x000000070000001b, Decoded.Op (LoadI 0 7)) ∷
+    (0xffffffff00000101, Decoded.Op (IAddI 1 0 (2 ^ 64 - 1))) ∷
+    (0x000000000000003b, Decoded.Op Halt) ∷
+    (0x0000000512340123, Decoded.Op (JmpSNe 1 5 0x1234)) ∷
+    (0x0000000300020124, Decoded.Op (Switch 1 2 3)) ∷
+    (0x0000000301020425, Decoded.Op (Lookup 1 4 2 3)) ∷
+    (0x0000002008030435, Decoded.Op (Alloc 4 3 32 8)) ∷
+    (0x0000001000020136, Decoded.Op (Store 1 16 2)) ∷
+    (0x0000000000000028, Decoded.Refused 12) ∷
+    (0x000000000000003d, Decoded.Refused 12) ∷
+    (0x0000000000002000, Decoded.Refused 13) ∷
+    (0x000000000000013b, Decoded.Refused 13) ∷
+    (0x0000010000000022, Decoded.Refused 13) ∷
+    (0x0000000300020224, Decoded.Refused 13) ∷
+    (0x0000002010030435, Decoded.Refused 13) ∷
+    []
+
+decodes : map (λ (c : ℕ × Decoded). decodeOf (c .0)) words ≡ map (λ (c : ℕ × Decoded). c .1) words
+unfolding words rows decodedBy decodeOf
+decodes = refl
+
+-- in an image of three words, one global and no tables
+counts : Counts
+counts = record { code = 3; globals = 1; switches = 0; lookups = 0 }
+
+images : List (ℕ × Checked)
+images =
+    (0x000000000002001d, Checked.Fine) ∷
+    (0x000000000003001d, Checked.Refused 14) ∷
+    (0x0000000300000027, Checked.Refused 14) ∷
+    (0x000000000000001c, Checked.Fine) ∷
+    (0x000000010000001c, Checked.Refused 15) ∷
+    (0x0000000000000024, Checked.Refused 15) ∷
+    (0x0000000000030020, Checked.Refused 14) ∷
+    (0x0000000000032020, Checked.Refused 13) ∷
+    []
+
+checks : map (λ (c : ℕ × Checked). checkOf counts (c .0)) images ≡ map (λ (c : ℕ × Checked). c .1) images
+unfolding counts images rows decodedBy decodeOf checkOf
+checks = refl
