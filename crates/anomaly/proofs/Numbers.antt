@@ -20,7 +20,7 @@ abbrev pub None : Type 0 → ℕ → ℕ → ℕ → Type 0
 None others n low zero = others
 None others n low (suc count) = None others n low count × (n ≡ low + count → ⊥)
 
-past : (others : Type 0) (n low count : ℕ) → low ≤ n → None others n low count → low + count ≤ n
+pub past : (others : Type 0) (n low count : ℕ) → low ≤ n → None others n low count → low + count ≤ n
 past others n low zero h none = omega arith
 past others n low (suc count) h none = let k = past others n low count h (none .0) in let d = none .1 in omega arith
 
@@ -30,15 +30,15 @@ others-of others n low (suc count) none = others-of others n low count (none .0)
 
 -- ---- Tests of ranges ----
 
-either : (a b : Bool) → (a || b) ≡ true → (a ≡ true) ⊎ (b ≡ true)
+pub either : (a b : Bool) → (a || b) ≡ true → (a ≡ true) ⊎ (b ≡ true)
 either true b h = inl refl
 either false b h = inr h
 
-both : (a b : Bool) → (a && b) ≡ true → (a ≡ true) × (b ≡ true)
+pub both : (a b : Bool) → (a && b) ≡ true → (a ≡ true) × (b ≡ true)
 both true b h = (refl, h)
 both false b h = (h, cc)
 
-in-range : (low high n : ℕ) → (leb low n && leb n high) ≡ true → (low ≤ n) × (n ≤ high)
+pub in-range : (low high n : ℕ) → (leb low n && leb n high) ≡ true → (low ≤ n) × (n ≤ high)
 in-range low high n h = let k = both (leb low n) (leb n high) h in (leb-true low n (k .0), leb-true n high (k .1))
 
 -- ---- Anomalies ----

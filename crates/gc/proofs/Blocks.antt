@@ -105,7 +105,7 @@ refused-said true k heap x r q e = let z : _≡_ {A = ℕ} 0 1 = cc (ap (λ (o :
 refused-said false k heap x r q e = (refl, ap (λ (o : Outcome). o .heap) e)
 
 -- pages laid over a heap, and taken out of it again
-laid-back : (m : Pages) (heap : List ℕ) → length (m .bytes) ≤ length heap → pagesOf (numbersOf m) (over (m .bytes) heap) ≡ m
+pub laid-back : (m : Pages) (heap : List ℕ) → length (m .bytes) ≤ length heap → pagesOf (numbersOf m) (over (m .bytes) heap) ≡ m
 unfolding pagesOf numbersOf
 laid-back m heap h = rw (take-over (m .bytes) heap h) refl
 

@@ -1,0 +1,42 @@
+-- What fits the smaller fits the larger. Assumes nothing.
+use mathlib.Core.Path.{_≡_, refl, sym}
+use Prim.Native.Nat.{ℕ, _≤_}
+use mathlib.Core.Bool.{Bool, true, false}
+use mathlib.Core.Option.{Option, none, some}
+use native.Mathlib.Omega.{arith}
+use lib.Dec.{leb}
+use borrow.Author.Tests.{leb-true, le-leb}
+use Rattle.vm.specs.Core.{Sizes, lacking, short}
+use Rattle.vm.specs.Core.{_⊑_, spent}
+
+lacking-none : (a b c : Bool) → lacking a b c ≡ none → (a ≡ true) × (b ≡ true) × (c ≡ true)
+unfolding lacking
+lacking-none false b c e = (cc, cc, cc)
+lacking-none true false c e = (cc, cc, cc)
+lacking-none true true false e = (cc, cc, cc)
+lacking-none true true true e = (refl, refl, refl)
+
+-- whatever is lacking, its number is one of running out
+lacking-spent : (a b c : Bool) {e : ℕ} → lacking a b c ≡ some e → spent e ≡ true
+unfolding lacking spent
+lacking-spent false b c {e} h = let q : 3 ≡ e = cc in rw (← q) refl
+lacking-spent true false c {e} h = let q : 18 ≡ e = cc in rw (← q) refl
+lacking-spent true true false {e} h = let q : 2 ≡ e = cc in rw (← q) refl
+lacking-spent true true true h = cc
+
+pub short-spent : (n u : Sizes) {e : ℕ} → short n u ≡ some e → spent e ≡ true
+unfolding short
+short-spent n u h = lacking-spent _ _ _ h
+
+pub fits-of : (n u : Sizes) → short n u ≡ none → u ⊑ n
+unfolding short
+fits-of n u h =
+    let t = lacking-none _ _ _ h in
+    record { frames = leb-true _ _ (t .0); heap = leb-true _ _ (t .2); slots = leb-true _ _ (t .1) }
+
+pub none-of : (n u : Sizes) → u ⊑ n → short n u ≡ none
+unfolding short lacking
+none-of n u h = rw (le-leb _ _ (h .frames), le-leb _ _ (h .slots), le-leb _ _ (h .heap), lacking) refl
+
+pub short-up : (n m u : Sizes) → n ⊑ m → short n u ≡ none → short m u ≡ none
+short-up n m u le h = none-of m u (let k = fits-of n u h in record { frames = omega arith; heap = omega arith; slots = omega arith })

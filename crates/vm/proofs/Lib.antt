@@ -1,0 +1,11 @@
+-- The laws of the definition: what is lent is looked at in one place.
+pub mod Fits
+pub mod Upward
+pub mod Kept
+pub mod Runs
+pub mod Holds
+pub mod Refusals
+pub mod Calls
+pub mod Start
+pub mod Inside
+pub mod Ends

@@ -1,0 +1,184 @@
+-- The tests of a call on a machine that holds a core are tests of the core alone. Assumes nothing.
+use mathlib.Core.Path.{_≡_, refl, sym, ap, ap₂, subst, _∙_}
+use Prim.Native.Nat.{ℕ, zero, suc, _-_, _%_, _≤_}
+use mathlib.Core.Bool.{Bool, true, false, not, _&&_, _||_, true≢false}
+use mathlib.Core.Option.{Option, none, some}
+use mathlib.Core.List.{List, [], _∷_, _++_, append-nil}
+use native.Mathlib.Omega.{arith}
+use lib.ListN.{length, take, drop}
+use lib.Seq.{take-length, length-take-le}
+use lib.Dec.{leb, ltb, eqb, lit≤}
+use borrow.Author.Tests.{le-leb, ne-eqb}
+use Rattle.string.specs.declared.table.StrTable.{StrTable}
+use Rattle.string.specs.Sound as Table
+use Rattle.gc.specs.declared.Gc.{Gc}
+use Rattle.gc.specs.Lent.{numbersOf}
+use Rattle.gc.specs.Lent as Heap
+use Rattle.op.specs.declared.Checked.{Checked}
+use Rattle.op.specs.declared.Counts.{Counts}
+use Rattle.op.specs.Layout.{isAlignment}
+use Rattle.op.specs.Reach.{checkOf}
+use Rattle.op.proofs.Sound.{check-refuses}
+use Rattle.vm.specs.declared.State.{State}
+use Rattle.vm.specs.Core.{Core, Land, Sizes, used, short}
+use Rattle.vm.specs.Image.{Image, Test, test, wordTest, wordTests, counts, imageOk, endsInHalt, below, imageTests}
+use Rattle.vm.specs.Machine.{Lent, Machine, sizes, landOf, view, Light, reset, putPc, putReg, Host, allocate, option, intern, internSmall, Call, run, light, host, framesOk, heapOk, slotsOk, returnsOk, framesBelong, pagesBelong, namesBelong, smallOk, tests, failing}
+use Rattle.vm.specs.Core.{_⊑_, spent}
+use Rattle.vm.proofs.Fits.{fits-of}
+use Rattle.vm.proofs.Holds.{Holds}
+
+-- ---- the clauses of 9, on the parts in use
+
+pub pagesOn : Land → Bool
+pagesOn l = Heap.soundOf (numbersOf (l .pages)) (length (l .pages .bytes))
+
+pub tableOn : Land → Bool
+tableOn l =
+    (leb (length (l .slots)) (length (l .slots)) && (eqb (length (l .slots)) 0 || Table.slotCount (length (l .slots))))
+    && Table.slotsOk (l .pages .base) (length (l .pages .bytes)) (l .names) (l .slots)
+
+pub framesOn : ℕ → Core → Bool
+framesOn zero c = true
+framesOn (suc last) c = returnsOk last (drop 1 (c .frames))
+
+-- pages that are within the lent heap are sound as in a heap of their own
+sound-lent : (g : Gc) (lent : ℕ) → g .pushed ≤ lent → Heap.soundOf g lent ≡ Heap.soundOf g (g .pushed)
+unfolding Heap.soundOf
+sound-lent g lent h = rw (le-leb (g .pushed) lent h, le-leb (g .pushed) (g .pushed) (omega arith)) refl
+
+module _ (n : Sizes) (c : Core) (m : Machine) (h : Holds n c m) where
+  fit : used c ⊑ n
+  fit = fits-of n (used c) (h .fits)
+
+  depth-fits : leb (m .state .depth) (length (m .lent .frames)) ≡ true
+  unfolding sizes used
+  depth-fits =
+      let e : length (m .lent .frames) ≡ n .frames = ap (λ (z : Sizes). z .frames) (h .lent) in
+      let k = fit .frames in
+      let d = h .depth in
+      le-leb (m .state .depth) (length (m .lent .frames)) (omega arith)
+
+  frames-are : take (m .state .depth) (m .lent .frames) ≡ c .frames
+  unfolding view
+  frames-are = ap (λ (d : Core). d .frames) (h .core)
+
+  frames-same : (k : ℕ) → framesBelong k (m .state) (m .lent) ≡ framesOn k c
+  unfolding framesBelong framesOn
+  frames-same zero = depth-fits
+  frames-same (suc last) = rw (depth-fits, frames-are) refl
+
+  pages-same : pagesBelong (m .state) (m .lent) ≡ pagesOn (c .land)
+  unfolding pagesBelong pagesOn sizes used numbersOf
+  pages-same =
+      let e : length (m .lent .heap) ≡ n .heap = ap (λ (z : Sizes). z .heap) (h .lent) in
+      let k = fit .heap in
+      rw (h .gc) (sound-lent _ _ (omega arith))
+
+  slots-are : take (m .state .strings .active) (m .lent .slots) ≡ c .land .slots
+  unfolding view landOf
+  slots-are = ap (λ (d : Core). d .land .slots) (h .core)
+
+  active-is : m .state .strings .active ≡ length (c .land .slots)
+  active-is = ap (λ (t : StrTable). t .active) (h .strings)
+
+  len-is : m .state .strings .len ≡ c .land .names
+  len-is = ap (λ (t : StrTable). t .len) (h .strings)
+
+  table-same : Table.soundOf (m .state .gc .base) (m .state .gc .pushed) (m .state .strings) (m .lent .slots) ≡ tableOn (c .land)
+  unfolding Table.soundOf Table.activeOk tableOn sizes used numbersOf
+  table-same =
+      let e : length (m .lent .slots) ≡ n .slots = ap (λ (z : Sizes). z .slots) (h .lent) in
+      let k = fit .slots in
+      let within : leb (length (c .land .slots)) (length (m .lent .slots)) ≡ true = le-leb (length (c .land .slots)) (length (m .lent .slots)) (omega arith) in
+      let self : leb (length (c .land .slots)) (length (c .land .slots)) ≡ true = le-leb (length (c .land .slots)) (length (c .land .slots)) (omega arith) in
+      rw (slots-are, h .gc, active-is, len-is, within, self) refl
+
+  names-same : namesBelong (m .state) (m .lent) ≡ (pagesOn (c .land) && tableOn (c .land))
+  unfolding namesBelong
+  names-same = ap₂ _&&_ pages-same table-same
+
+  base-legal : heapOk (m .state .gc .base) (m .lent) ≡ true
+  unfolding numbersOf
+  base-legal = rw (h .gc) (h .heap-ok)
+
+-- ---- all tests of a call
+
+unfoldable pub testsOn : Call → Core → List Test
+testsOn (run im b) c = imageTests true im ++ (test (framesOn (length (im .code)) c && pagesOn (c .land)) 9 ∷ [])
+testsOn (light reset) c = test true 10 ∷ []
+testsOn (light (putPc p)) c = []
+testsOn (light (putReg r v)) c = test (ltb r 32) 13 ∷ []
+testsOn (host (allocate kind align n)) c = test true 10 ∷ test (ltb kind 4 && isAlignment align) 13 ∷ test (pagesOn (c .land)) 9 ∷ []
+testsOn (host (option o)) c = test true 10 ∷ test (pagesOn (c .land)) 9 ∷ []
+testsOn (host (intern s)) c = test true 10 ∷ test (pagesOn (c .land) && tableOn (c .land)) 9 ∷ []
+testsOn (host (internSmall n w)) c = test true 10 ∷ test (pagesOn (c .land) && tableOn (c .land)) 9 ∷ test (smallOk n w) 17 ∷ []
+
+pub tests-are : (n : Sizes) (k : Call) (c : Core) (m : Machine) → Holds n c m → tests k (m .state) (m .lent) ≡ testsOn k c
+unfolding tests testsOn
+tests-are n (run im b) c m h = rw (h .frames-ok, base-legal n c m h, frames-same n c m h, pages-same n c m h) refl
+tests-are n (light reset) c m h = rw (h .frames-ok) refl
+tests-are n (light (putPc p)) c m h = refl
+tests-are n (light (putReg r v)) c m h = refl
+tests-are n (host (allocate kind align z)) c m h = rw (base-legal n c m h, pages-same n c m h) refl
+tests-are n (host (option o)) c m h = rw (base-legal n c m h, pages-same n c m h) refl
+tests-are n (host (intern s)) c m h = rw (base-legal n c m h, h .slots-ok, names-same n c m h) refl
+tests-are n (host (internSmall z w)) c m h = rw (base-legal n c m h, h .slots-ok, names-same n c m h) refl
+
+-- ---- a test that fails refuses with a number from 9 to 17, and none of these is one of running out
+
+pub Numbered : List Test → Type 0
+Numbered [] = Unit {0}
+Numbered (t ∷ ts) = (t .passes ≡ false → (9 ≤ t .number) × (t .number ≤ 17)) × Numbered ts
+
+numbered-append : (ts us : List Test) → Numbered ts → Numbered us → Numbered (ts ++ us)
+unfolding Numbered
+numbered-append [] us h k = k
+numbered-append (t ∷ ts) us h k = (h .0, numbered-append ts us (h .1) k)
+
+word-numbered : (n : Counts) (w : ℕ) (x : Checked) → checkOf n w ≡ x → wordTest x .passes ≡ false → (9 ≤ wordTest x .number) × (wordTest x .number ≤ 17)
+unfolding wordTest
+word-numbered n w Checked.Fine e h = absurd (true≢false h)
+word-numbered n w (Checked.Refused k) e h = let r = check-refuses n w k e in (omega arith, omega arith)
+
+words-numbered : (n : Counts) (ws : List ℕ) → Numbered (wordTests n ws)
+unfolding wordTests Numbered
+words-numbered n [] = tt
+words-numbered n (w ∷ ws) = (word-numbered n w (checkOf n w) refl, words-numbered n ws)
+
+-- the tests of an image, with those that follow in a run
+pub image-numbered : (lent : Bool) (im : Image) (rest : List Test) → Numbered rest → Numbered (imageTests lent im ++ rest)
+unfolding imageTests Numbered
+image-numbered lent im rest h =
+    (λ _. (lit≤ tt, lit≤ tt), (λ _. (lit≤ tt, lit≤ tt), (λ _. (lit≤ tt, lit≤ tt), numbered-append (wordTests (counts im) (im .code)) rest (words-numbered (counts im) (im .code)) h)))
+
+pub image-alone : (lent : Bool) (im : Image) → Numbered (imageTests lent im)
+unfolding Numbered
+image-alone lent im = subst Numbered (append-nil (imageTests lent im)) (image-numbered lent im [] tt)
+
+pub call-numbered : (k : Call) (s : State) (l : Lent) → Numbered (tests k s l)
+unfolding tests Numbered
+call-numbered (run im b) s l = image-numbered _ im _ (λ _. (lit≤ tt, lit≤ tt), tt)
+call-numbered (light reset) s l = (λ _. (lit≤ tt, lit≤ tt), tt)
+call-numbered (light (putPc p)) s l = tt
+call-numbered (light (putReg r v)) s l = (λ _. (lit≤ tt, lit≤ tt), tt)
+call-numbered (host (allocate kind align n)) s l = (λ _. (lit≤ tt, lit≤ tt), (λ _. (lit≤ tt, lit≤ tt), (λ _. (lit≤ tt, lit≤ tt), tt)))
+call-numbered (host (option o)) s l = (λ _. (lit≤ tt, lit≤ tt), (λ _. (lit≤ tt, lit≤ tt), tt))
+call-numbered (host (intern n)) s l = (λ _. (lit≤ tt, lit≤ tt), (λ _. (lit≤ tt, lit≤ tt), tt))
+call-numbered (host (internSmall n w)) s l = (λ _. (lit≤ tt, lit≤ tt), (λ _. (lit≤ tt, lit≤ tt), (λ _. (lit≤ tt, lit≤ tt), tt)))
+
+pub failing-numbered : (ts : List Test) (k : ℕ) → Numbered ts → failing ts ≡ some k → (9 ≤ k) × (k ≤ 17)
+unfolding failing Numbered
+failing-numbered [] k u e = let z : _≡_ {A = ℕ} 0 1 = cc in absurd (omega arith)
+failing-numbered (t ∷ ts) k u e = by (t .passes) refl (failing-numbered ts k (u .1)) (unfold failing in e)
+  where
+    by : (b : Bool) → t .passes ≡ b → (failing ts ≡ some k → (9 ≤ k) × (k ≤ 17)) → (elim b [ true ↦ failing ts | false ↦ some (t .number) ]) ≡ some k → (9 ≤ k) × (k ≤ 17)
+    by true p ih q = ih q
+    by false p ih q = let z : t .number ≡ k = cc in rw (← z) (u .0 p)
+
+pub numbered-unspent : (k : ℕ) → (9 ≤ k) × (k ≤ 17) → spent k ≡ false
+unfolding spent
+numbered-unspent k h = rw (ne-eqb k 2 (λ e. omega arith), ne-eqb k 3 (λ e. omega arith), ne-eqb k 5 (λ e. omega arith), ne-eqb k 18 (λ e. omega arith)) refl
+
+pub run-unspent : (im : Image) (b : ℕ) (c : Core) (k : ℕ) → failing (testsOn (run im b) c) ≡ some k → spent k ≡ false
+unfolding testsOn Numbered
+run-unspent im b c k f = numbered-unspent k (failing-numbered _ k (image-numbered true im _ (λ _. (lit≤ tt, lit≤ tt), tt)) f)

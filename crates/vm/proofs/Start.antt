@@ -1,0 +1,97 @@
+-- A start leaves a machine that holds the same core, whatever was lent. Assumes nothing.
+use mathlib.Core.Path.{_≡_, refl, sym, ap, ap₂, _∙_}
+use Prim.Native.Nat.{ℕ, _+_, _*_, _%_, _^_, _≤_, zero-le}
+use mathlib.Core.Bool.{Bool, true, false, _&&_}
+use mathlib.Core.Option.{Option, none, some}
+use mathlib.Core.List.{List, [], _∷_, _++_}
+use lib.ListN.{length, take, replicate}
+use lib.Dec.{leb, eqb}
+use borrow.Author.Tests.{leb-true}
+use Rattle.memory.proofs.Over.{length-write}
+use Rattle.gc.specs.Pages.{Pages, growOf, gapOf, holds, block, pushed, fitted, allocated}
+use Rattle.gc.specs.Lent.{pageSize, pagesOf, numbersOf}
+use Rattle.vm.specs.Core.{Core, Land, Sizes, used, short, lacking, setFrames, setLand, setPages, setBytes}
+use Rattle.vm.specs.Image.{Image, Test, test, imageOk, imageTests}
+use Rattle.vm.specs.Names.{boxed, filled}
+use Rattle.vm.specs.Machine.{Lent, Machine, sizes, landOf, view, Call, run, light, host, Answer, withPages, withFrames, framesOk, heapOk, slotsOk, failing, perform, unset, firstPage, firstLand, blank, begin, starts, start, begun, declined}
+use Rattle.vm.proofs.Fits.{none-of}
+use Rattle.vm.proofs.Kept.{boxed-kept}
+use Rattle.vm.proofs.Holds.{Holds, holds-pages, holds-frames}
+
+both-true : (a b : Bool) → (a && b) ≡ true → (a ≡ true) × (b ≡ true)
+both-true true b h = (refl, h)
+both-true false b h = (cc, cc)
+
+failing-first : (b : Bool) (k : ℕ) (ts : List Test) → failing (test b k ∷ ts) ≡ none → b ≡ true
+unfolding failing
+failing-first true k ts h = refl
+failing-first false k ts h = cc
+
+starts-none : (o : Option ℕ) (base : ℕ) (l : Lent) (m : Machine) → starts o base l ≡ begun m → (o ≡ none) × (begin base l ≡ m)
+unfolding starts
+starts-none none base l m h = (refl, cc)
+starts-none (some e) base l m h = (cc, cc)
+
+-- ---- a machine with nothing in use
+
+empty : ℕ → Core
+empty base = record { regs = replicate 32 0; pc = 0; frames = []; land = record { pages = record { base = base; bytes = []; last = 0; len = 0 }; slots = []; names = 0 } }
+
+blank-holds : (base : ℕ) (l : Lent) → framesOk l ≡ true → heapOk base l ≡ true → slotsOk l ≡ true → Holds (sizes l) (empty base) (blank base l)
+unfolding empty blank view landOf pagesOf numbersOf used
+blank-holds base l f h s =
+    record {
+      lent = refl;
+      frames-ok = f;
+      heap-ok = h;
+      slots-ok = s;
+      core = refl;
+      depth = refl;
+      gc = refl;
+      strings = refl;
+      fits = none-of (sizes l) _ (record { frames = zero-le; heap = zero-le; slots = zero-le });
+    }
+
+-- ---- page 0 and frame 0
+
+first-base : (base : ℕ) → firstLand base .pages .base ≡ base
+unfolding firstLand firstPage
+first-base base = boxed-kept 0 0 (firstPage base) .base
+
+first-length : (base : ℕ) → length (firstLand base .pages .bytes) ≡ pageSize
+unfolding firstLand firstPage boxed filled setPages setBytes allocated fitted holds block gapOf
+first-length base = rw (length-write, length-write) refl
+
+-- the core that a start leaves, whatever was lent
+pub first : ℕ → Core
+first base = setFrames (unset ∷ []) (setLand (setPages (firstLand base .pages) (empty base .land)) (empty base))
+
+frames-room : (l : Lent) → framesOk l ≡ true → 1 ≤ sizes l .frames
+unfolding framesOk sizes
+frames-room l f = leb-true _ _ (both-true _ _ f .0)
+
+heap-room : (base : ℕ) (l : Lent) → heapOk base l ≡ true → pageSize ≤ sizes l .heap
+unfolding heapOk sizes
+heap-room base l h = leb-true _ _ (both-true _ _ (both-true _ _ h .0) .0)
+
+begin-holds : (base : ℕ) (l : Lent) → framesOk l ≡ true → heapOk base l ≡ true → slotsOk l ≡ true → Holds (sizes l) (first base) (begin base l)
+unfolding begin first
+begin-holds base l f h s =
+    let n = sizes l in
+    let p = firstLand base .pages in
+    let pages = holds-pages n (empty base) (blank base l) (blank-holds base l f h s) p (unfold empty in first-base base) (rw first-length (heap-room base l h)) in
+    holds-frames n _ _ pages [] (unset ∷ []) (frames-room l f)
+
+-- a start that is not refused
+pub record Begun (base : ℕ) (l : Lent) (m : Machine) : Type 0 where
+  pub room : 1 ≤ sizes l .frames
+  pub holds : Holds (sizes l) (first base) m
+
+pub start-holds : (im : Image) (base : ℕ) (l : Lent) (m : Machine) → start im base l ≡ begun m → Begun base l m
+unfolding start imageTests
+start-holds im base l m e =
+    let q = starts-none _ base l m e in
+    let lent = both-true (framesOk l && (heapOk base l && slotsOk l)) _ (failing-first _ 10 _ (q .0)) .0 in
+    let f = both-true _ _ lent in
+    let hs = both-true _ _ (f .1) in
+    record { room = frames-room l (f .0); holds = rw (q .1) at (begin-holds base l (f .0) (hs .0) (hs .1)) }

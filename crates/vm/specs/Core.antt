@@ -1,0 +1,76 @@
+-- What a machine holds in use, without the lent buffers, and its limits. Definitions only.
+--
+-- A core has nothing of the lent heap past the pushed bytes and nothing of the lent slots past the active ones. So two mistakes that would
+-- break demand 3 cannot be written on it: a page that shows what was lent because it is pushed without being zeroed, and probing that goes
+-- over the slots lent. `limited` (`Run`) and `granted` (`Machine`) are where a core meets what is lent.
+use Prim.Native.Nat.{ℕ, _≤_}
+use mathlib.Core.Bool.{Bool, true, false, _||_}
+use mathlib.Core.Option.{Option, none, some}
+use mathlib.Core.List.{List}
+use lib.ListN.{length, set}
+use lib.Dec.{leb, eqb}
+use Rattle.gc.specs.Pages.{Pages}
+
+-- what programs and host calls allocate in: the pushed pages, the active slots, the count of names
+pub record Land : Type 0 where
+  pub pages : Pages
+  pub slots : List ℕ
+  pub names : ℕ
+
+-- the registers, the pc, the frames in use ('the first depth frames are in use'), and the land
+pub record Core : Type 0 where
+  pub regs : List ℕ
+  pub pc : ℕ
+  pub frames : List ℕ
+  pub land : Land
+
+-- how many frames, heap bytes and slots are lent, or in use
+pub record Sizes : Type 0 where
+  pub frames : ℕ
+  pub heap : ℕ
+  pub slots : ℕ
+
+unfoldable pub used : Core → Sizes
+used c = record { frames = length (c .frames); heap = length (c .land .pages .bytes); slots = length (c .land .slots) }
+
+-- the number with which a use that does not fit what is lent ends: 3, 'depth equals frames'; 18, 'table must grow past the slots
+-- lent'; 2, 'allocation refused'. Interning gives 18 before 2
+unfoldable pub lacking : Bool → Bool → Bool → Option ℕ
+lacking false slots heap = some 3
+lacking true false heap = some 18
+lacking true true false = some 2
+lacking true true true = none
+
+unfoldable pub short : Sizes → Sizes → Option ℕ
+short lent need = lacking (leb (need .frames) (lent .frames)) (leb (need .slots) (lent .slots)) (leb (need .heap) (lent .heap))
+
+-- the numbers of running out: an allocation refused, no frame, the budget completed, no slots
+unfoldable pub spent : ℕ → Bool
+spent e = eqb e 2 || eqb e 3 || eqb e 5 || eqb e 18
+
+-- at least as many frames, heap bytes and slots
+infix 20 _⊑_
+pub record _⊑_ (a b : Sizes) : Type 0 where
+  pub frames : a .frames ≤ b .frames
+  pub heap : a .heap ≤ b .heap
+  pub slots : a .slots ≤ b .slots
+
+-- ---- a core with one part changed
+
+unfoldable pub setReg : ℕ → ℕ → Core → Core
+setReg r v c = record { regs = set (c .regs) r v; pc = c .pc; frames = c .frames; land = c .land }
+
+unfoldable pub setPc : ℕ → Core → Core
+setPc p c = record { regs = c .regs; pc = p; frames = c .frames; land = c .land }
+
+unfoldable pub setFrames : List ℕ → Core → Core
+setFrames f c = record { regs = c .regs; pc = c .pc; frames = f; land = c .land }
+
+unfoldable pub setLand : Land → Core → Core
+setLand l c = record { regs = c .regs; pc = c .pc; frames = c .frames; land = l }
+
+unfoldable pub setPages : Pages → Land → Land
+setPages p l = record { pages = p; slots = l .slots; names = l .names }
+
+unfoldable pub setBytes : List ℕ → Pages → Pages
+setBytes b p = record { base = p .base; bytes = b; last = p .last; len = p .len }

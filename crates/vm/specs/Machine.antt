@@ -1,0 +1,269 @@
+-- The machine: its state and the lent buffers, the calls, their refusals in the paper's order, and the start. Definitions only.
+use Prim.Native.Nat.{ℕ, zero, suc, _+_, _-_, _*_, _%_, _^_}
+use mathlib.Core.Bool.{Bool, true, false, _&&_, _||_}
+use mathlib.Core.Option.{Option, none, some}
+use mathlib.Core.List.{List, [], _∷_, _++_}
+use lib.ListN.{length, take, drop, set, replicate}
+use lib.Dec.{leb, ltb, eqb}
+use Rattle.memory.specs.Bytes.{bytesOf}
+use Rattle.memory.specs.Lists.{over}
+use Rattle.string.specs.declared.table.StrTable.{StrTable}
+use Rattle.string.specs.Payload.{smallName}
+use Rattle.string.specs.Grow.{spared}
+use Rattle.string.specs.Sound as Table
+use Rattle.gc.specs.declared.Gc.{Gc}
+use Rattle.gc.specs.Pages.{Pages}
+use Rattle.gc.specs.Lent.{pageSize, pagesOf, numbersOf}
+use Rattle.gc.specs.Lent as Heap
+use Rattle.op.specs.Layout.{isAlignment}
+use Rattle.vm.specs.declared.State.{State}
+use Rattle.vm.specs.Core.{Core, Land, Sizes, used, short, spent, setReg, setPc, setFrames, setLand}
+use Rattle.vm.specs.Image.{Image, Test, test, imageTests}
+use Rattle.vm.specs.Run.{Ran, go, root, entered, stored}
+use Rattle.vm.specs.Names.{Given, allocates, boxed, optional, interned}
+
+-- ---- the state and the lent buffers
+
+pub record Lent : Type 0 where
+  pub frames : List ℕ
+  pub heap : List ℕ
+  pub slots : List ℕ
+  pub spare : List ℕ
+
+pub record Machine : Type 0 where
+  pub state : State
+  pub lent : Lent
+
+unfoldable pub sizes : Lent → Sizes
+sizes l = record { frames = length (l .frames); heap = length (l .heap); slots = length (l .slots) }
+
+-- the core of a machine: of each buffer the part in use
+unfoldable pub landOf : Machine → Land
+landOf m = record { pages = pagesOf (m .state .gc) (m .lent .heap); slots = take (m .state .strings .active) (m .lent .slots); names = m .state .strings .len }
+
+unfoldable pub view : Machine → Core
+view m = record { regs = m .state .regs; pc = m .state .pc; frames = take (m .state .depth) (m .lent .frames); land = landOf m }
+
+-- ---- a core laid back over state and buffers, part by part; what is past the parts in use stays
+
+unfoldable pub withPages : Pages → Machine → Machine
+withPages p m =
+    record {
+      state = record { regs = m .state .regs; pc = m .state .pc; depth = m .state .depth; gc = numbersOf p; strings = m .state .strings };
+      lent = record { frames = m .lent .frames; heap = over (p .bytes) (m .lent .heap); slots = m .lent .slots; spare = m .lent .spare };
+    }
+
+-- 'a spare slice as long (after growth it begins with the old slots, otherwise untouched, as are slots past the active ones)'
+unfoldable pub withNames : List ℕ → ℕ → Machine → Machine
+withNames slots names m =
+    let active = m .state .strings .active in
+    record {
+      state = record { regs = m .state .regs; pc = m .state .pc; depth = m .state .depth; gc = m .state .gc; strings = record { active = length slots; len = names } };
+      lent = record { frames = m .lent .frames; heap = m .lent .heap; slots = over slots (m .lent .slots); spare = spared (ltb active (length slots)) (take active (m .lent .slots)) (m .lent .spare) };
+    }
+
+-- the lists of a trail written over the frames in turn: a frame above the depth keeps what a `Call` left there
+unfoldable pub traced : List (List ℕ) → List ℕ → List ℕ
+traced [] old = old
+traced (f ∷ fs) old = traced fs (over f old)
+
+unfoldable pub withFrames : List (List ℕ) → List ℕ → Machine → Machine
+withFrames trail frames m =
+    record {
+      state = record { regs = m .state .regs; pc = m .state .pc; depth = length frames; gc = m .state .gc; strings = m .state .strings };
+      lent = record { frames = over frames (traced trail (m .lent .frames)); heap = m .lent .heap; slots = m .lent .slots; spare = m .lent .spare };
+    }
+
+unfoldable pub withRegs : List ℕ → ℕ → Machine → Machine
+withRegs regs pc m = record { state = record { regs = regs; pc = pc; depth = m .state .depth; gc = m .state .gc; strings = m .state .strings }; lent = m .lent }
+
+-- ---- the calls
+
+-- calls on the state and frame 0 alone
+pub data Light : Type 0 where
+  reset : Light
+  putPc : ℕ → Light
+  putReg : ℕ → ℕ → Light
+
+-- calls that allocate
+pub data Host : Type 0 where
+  allocate : ℕ → ℕ → ℕ → Host  -- kind, align, size
+  option : Option ℕ → Host
+  intern : List ℕ → Host
+  internSmall : ℕ → ℕ → Host  -- length, word
+
+pub data Call : Type 0 where
+  run : Image → ℕ → Call
+  light : Light → Call
+  host : Host → Call
+
+-- 'Answers are all numbers, pcs, steps and values returned'
+pub data Answer : Type 0 where
+  ended : ℕ → ℕ → ℕ → Answer  -- number, pc, steps
+  value : ℕ → Answer
+  done : Answer
+  refused : ℕ → Answer
+
+unfoldable pub ranOut : Answer → Bool
+ranOut (ended e pc steps) = spent e
+ranOut (value v) = false
+ranOut done = false
+ranOut (refused e) = spent e
+
+pub record Called : Type 0 where
+  pub answer : Answer
+  pub machine : Machine
+
+-- ---- what a call makes of a core, within what is lent
+
+-- a core with what a run wrote to the frames on the way
+pub record Acted : Type 0 where
+  pub answer : Answer
+  pub core : Core
+  pub trail : List (List ℕ)
+
+-- on code of n words: 'Empty code returns 0 and writes nothing'; a pc past the end returns 0 with no step
+unfoldable pub ran : ℕ → ℕ → Ran → Acted
+ran n p r = record { answer = ended (r .ending) (r .core .pc) (r .steps); core = stored (r .ending) p (r .core); trail = (root n ∷ []) ∷ r .trail }
+
+unfoldable pub idle : Core → Ran
+idle c = record { ending = 0; core = c; steps = 0; trail = [] }
+
+unfoldable pub runs : Sizes → Image → ℕ → ℕ → Core → Acted
+runs lent im b zero c = record { answer = ended 0 (c .pc) 0; core = c; trail = [] }
+runs lent im b (suc k) c =
+    elim (ltb (c .pc) (suc k)) [ true ↦ ran (suc k) (c .pc) (go lent im b (entered (suc k) c)) | false ↦ ran (suc k) (c .pc) (idle (entered (suc k) c)) ]
+
+unfoldable pub hosted : Host → Land → Given
+hosted (allocate kind align n) l = allocates kind n l
+hosted (option o) l = optional o l
+hosted (intern s) l = interned s l
+hosted (internSmall n w) l = interned (smallName n w) l
+
+-- '`reset` sets pc to 2^64−1, depth 1 and frame 0 to 2^64−1'
+abbrev pub unset : ℕ
+unset = 2 ^ 64 - 1
+
+unfoldable pub lightly : Light → Machine → Machine
+lightly reset m = withRegs (m .state .regs) unset (withFrames [] (unset ∷ []) m)
+lightly (putPc p) m = withRegs (m .state .regs) p m
+lightly (putReg r v) m = withRegs (set (m .state .regs) r v) (m .state .pc) m
+
+-- a run leaves registers, pc, frames and pages; a host call the pages, and an interning the names too
+unfoldable pub runLeaves : Machine → Acted → Machine
+runLeaves m a = withRegs (a .core .regs) (a .core .pc) (withFrames (a .trail) (a .core .frames) (withPages (a .core .land .pages) m))
+
+unfoldable pub hostLeaves : Host → Machine → Land → Machine
+hostLeaves (allocate kind align n) m l = withPages (l .pages) m
+hostLeaves (option o) m l = withPages (l .pages) m
+hostLeaves (intern s) m l = withNames (l .slots) (l .names) (withPages (l .pages) m)
+hostLeaves (internSmall n w) m l = withNames (l .slots) (l .names) (withPages (l .pages) m)
+
+-- what is given, if it fits what is lent; else its number, and everything as it was
+unfoldable pub granted : Option ℕ → Host → Machine → Given → Called
+granted none k m g = record { answer = value (g .value); machine = hostLeaves k m (g .land) }
+granted (some e) k m g = record { answer = refused e; machine = m }
+
+unfoldable pub hostCall : Host → Machine → Given → Called
+hostCall k m g = granted (short (sizes (m .lent)) (used (setLand (g .land) (view m)))) k m g
+
+unfoldable pub runCall : Image → ℕ → Machine → Called
+runCall im b m =
+    let a = runs (sizes (m .lent)) im b (length (im .code)) (view m) in
+    record { answer = a .answer; machine = runLeaves m a }
+
+unfoldable pub act : Call → Machine → Called
+act (run im b) m = runCall im b m
+act (light k) m = record { answer = done; machine = lightly k m }
+act (host k) m = hostCall k m (hosted k (landOf m))
+
+-- ---- refusals, in the paper's order
+
+-- 10: 'frames 1–16,384; heap 1–256 whole pages; slots a power of two, 64–4,096, and a spare slice as long; B a multiple of 4,096 from
+-- 4,096, heap end at most 2^48'
+unfoldable pub framesOk : Lent → Bool
+framesOk l = leb 1 (length (l .frames)) && leb (length (l .frames)) 16384
+
+unfoldable pub heapOk : ℕ → Lent → Bool
+heapOk base l =
+    (leb pageSize (length (l .heap)) && (leb (length (l .heap)) (256 * pageSize) && eqb (length (l .heap) % pageSize) 0))
+    && (leb pageSize base && (eqb (base % pageSize) 0 && leb (base + length (l .heap)) (2 ^ 48)))
+
+unfoldable pub slotsOk : Lent → Bool
+slotsOk l = Table.slotCount (length (l .slots)) && eqb (length (l .spare)) (length (l .slots))
+
+-- 9: 'depth above the frames'; 'for a run of non-empty code, a frame in use other than frame 0 whose return isn't below the last word's
+-- place'
+unfoldable pub returnsOk : ℕ → List ℕ → Bool
+returnsOk last [] = true
+returnsOk last (f ∷ fs) = ltb f last && returnsOk last fs
+
+unfoldable pub framesBelong : ℕ → State → Lent → Bool
+framesBelong zero s l = leb (s .depth) (length (l .frames))
+framesBelong (suc last) s l = leb (s .depth) (length (l .frames)) && returnsOk last (drop 1 (take (s .depth) (l .frames)))
+
+-- 9: pages and last page; and of an interning the table. Definitions of the crates below
+unfoldable pub pagesBelong : State → Lent → Bool
+pagesBelong s l = Heap.soundOf (s .gc) (length (l .heap))
+
+unfoldable pub namesBelong : State → Lent → Bool
+namesBelong s l = pagesBelong s l && Table.soundOf (s .gc .base) (s .gc .pushed) (s .strings) (l .slots)
+
+-- 17: 'small string over 8 bytes, or non-zero padding'
+unfoldable pub smallOk : ℕ → ℕ → Bool
+smallOk n w = leb n 8 && ltb w (256 ^ n)
+
+unfoldable pub tests : Call → State → Lent → List Test
+tests (run im b) s l =
+    imageTests (framesOk l && heapOk (s .gc .base) l) im ++ (test (framesBelong (length (im .code)) s l && pagesBelong s l) 9 ∷ [])
+tests (light reset) s l = test (framesOk l) 10 ∷ []
+tests (light (putPc p)) s l = []
+tests (light (putReg r v)) s l = test (ltb r 32) 13 ∷ []
+tests (host (allocate kind align n)) s l = test (heapOk (s .gc .base) l) 10 ∷ test (ltb kind 4 && isAlignment align) 13 ∷ test (pagesBelong s l) 9 ∷ []
+tests (host (option o)) s l = test (heapOk (s .gc .base) l) 10 ∷ test (pagesBelong s l) 9 ∷ []
+tests (host (intern n)) s l = test (heapOk (s .gc .base) l && slotsOk l) 10 ∷ test (namesBelong s l) 9 ∷ []
+tests (host (internSmall n w)) s l = test (heapOk (s .gc .base) l && slotsOk l) 10 ∷ test (namesBelong s l) 9 ∷ test (smallOk n w) 17 ∷ []
+
+-- the number of the first test that fails
+unfoldable pub failing : List Test → Option ℕ
+failing [] = none
+failing (t ∷ ts) = elim (t .passes) [ true ↦ failing ts | false ↦ some (t .number) ]
+
+-- a refused call leaves state and buffers unchanged
+unfoldable pub tried : Option ℕ → Call → Machine → Called
+tried none k m = act k m
+tried (some e) k m = record { answer = refused e; machine = m }
+
+unfoldable pub perform : Call → Machine → Called
+perform k m = tried (failing (tests k (m .state) (m .lent))) k m
+
+-- ---- the start
+
+pub data Started : Type 0 where
+  declined : ℕ → Started
+  begun : Machine → Started
+
+unfoldable pub firstPage : ℕ → Land
+firstPage base = record { pages = record { base = base; bytes = replicate pageSize 0; last = 0; len = 0 }; slots = []; names = 0 }
+
+-- '`Vm::new_in` boxes [0, 0]'
+unfoldable pub firstLand : ℕ → Land
+firstLand base = boxed 0 0 (firstPage base) .land
+
+-- registers and pc 0, frame 0 'as `reset` does, whatever was lent', page 0 with the box of none; slots and spare as they were
+unfoldable pub blank : ℕ → Lent → Machine
+blank base l =
+    record {
+      state = record { regs = replicate 32 0; pc = 0; depth = 0; gc = record { base = base; pushed = 0; page = 0; len = 0 }; strings = record { active = 0; len = 0 } };
+      lent = l;
+    }
+
+unfoldable pub begin : ℕ → Lent → Machine
+begin base l = withFrames [] (unset ∷ []) (withPages (firstLand base .pages) (blank base l))
+
+unfoldable pub starts : Option ℕ → ℕ → Lent → Started
+starts none base l = begun (begin base l)
+starts (some e) base l = declined e
+
+unfoldable pub start : Image → ℕ → Lent → Started
+start im base l = starts (failing (imageTests (framesOk l && (heapOk base l && slotsOk l)) im)) base l

@@ -1,0 +1,120 @@
+-- Instructions on a core without limits, each held afterwards to what is lent, and runs with a budget. Definitions only.
+use Prim.Native.Nat.{ℕ, zero, suc, _+_, _-_, _%_, _^_}
+use mathlib.Core.Bool.{Bool, true, false, _&&_, _||_}
+use mathlib.Core.Option.{Option, none, some}
+use mathlib.Core.List.{List, [], _∷_, _++_}
+use lib.ListN.{length, getD, take, set}
+use lib.Dec.{eqb, ltb}
+use Rattle.memory.specs.Bytes.{bytesOf, number}
+use Rattle.memory.specs.Lists.{write}
+use Rattle.string.specs.Payload.{reaches}
+use Rattle.gc.specs.Pages.{Pages, Block, allocated}
+use Rattle.gc.specs.Lent.{pageSize}
+use Rattle.op.specs.declared.Decoded.{Decoded}
+use Rattle.op.specs.Decode.{decodeOf}
+use Rattle.vm.specs.declared.Effect.{Effect}
+use Rattle.vm.specs.declared.Effect.the-variants as effect
+use Rattle.vm.specs.Core.{Core, Land, Sizes, used, short, setReg, setPc, setFrames, setLand, setPages, setBytes}
+use Rattle.vm.specs.Image.{Image}
+use Rattle.vm.specs.Effect.{effectOf, unlisted}
+
+-- what an instruction comes to: a further core, a Halt, or an end with the core as it was
+pub data Step : Type 0 where
+  next : Core → Step
+  halted : Step
+  stop : ℕ → Step
+
+unfoldable pub provided : Bool → ℕ → Core → Step
+provided true e d = next d
+provided false e d = stop e
+
+unfoldable pub forward : Core → Core
+forward c = setPc (c .pc + 1) c
+
+-- '`Load` and `Store` reach 8 bytes at base plus offset, an unwrapped sum that is a multiple of 8 and wholly in pushed pages; else end 6'
+unfoldable pub addressed : Pages → ℕ → Bool
+addressed p a = eqb (a % 8) 0 && reaches (p .base) (length (p .bytes)) a 8
+
+unfoldable pub loaded : Pages → ℕ → ℕ
+loaded p a = number 8 (a - p .base) (p .bytes)
+
+unfoldable pub stored8 : ℕ → ℕ → Pages → Pages
+stored8 a v p = setBytes (write (a - p .base) (bytesOf 8 v) (p .bytes)) p
+
+-- '`Ret` at depth 0: end 8'; a return goes on behind the `Call`
+unfoldable pub returned : ℕ → Core → Step
+returned zero c = stop 8
+returned (suc d) c = next (setPc ((getD (c .frames) d 0 + 1) % 2 ^ 64) (setFrames (take d (c .frames)) c))
+
+unfoldable pub took : ℕ → Core → Block → Step
+took dst c b = next (forward (setReg dst (b .address) (setLand (setPages (b .pages) (c .land)) c)))
+
+-- an effect on a core without limits
+unfoldable pub apply : Effect → Core → Step
+apply (effect.Set dst v) c = next (forward (setReg dst v c))
+apply effect.Skip c = next (forward c)
+apply (effect.Goto target) c = next (setPc target c)
+apply (effect.Call func) c = next (setPc func (setFrames (c .frames ++ (c .pc ∷ [])) c))
+apply effect.Ret c = returned (length (c .frames)) c
+apply (effect.Load dst base offset) c = provided (addressed (c .land .pages) (base + offset)) 6 (forward (setReg dst (loaded (c .land .pages) (base + offset)) c))
+apply (effect.Store base offset v) c =
+    provided (addressed (c .land .pages) (base + offset)) 6 (forward (setLand (setPages (stored8 (base + offset) v (c .land .pages)) (c .land)) c))
+apply (effect.Alloc dst kind size) c = took dst c (allocated pageSize kind size (c .land .pages))
+apply (effect.Stop e) c = stop e
+apply effect.Halt c = halted
+
+-- the effect of the word at the pc
+unfoldable pub wordEffect : Image → List ℕ → Decoded → Effect
+wordEffect im r (Decoded.Op op) = effectOf im r op
+wordEffect im r (Decoded.Refused k) = effect.Stop unlisted
+
+unfoldable pub fetched : Bool → Image → Core → Effect
+fetched true im c = wordEffect im (c .regs) (decodeOf (getD (im .code) (c .pc) 0))
+fetched false im c = effect.Stop unlisted
+
+-- ---- held to what is lent: a step whose result does not fit stops as if it had done nothing
+
+unfoldable pub unless : Option ℕ → Core → Step
+unless none d = next d
+unless (some e) d = stop e
+
+unfoldable pub limited : Sizes → Step → Step
+limited lent (next d) = unless (short lent (used d)) d
+limited lent halted = halted
+limited lent (stop e) = stop e
+
+unfoldable pub step : Sizes → Image → Core → Step
+step lent im c = limited lent (apply (fetched (ltb (c .pc) (length (im .code))) im c) c)
+
+-- ---- a run
+
+-- how a run ended, the core it left, the instructions completed, and the frames in use after each of them
+pub record Ran : Type 0 where
+  pub ending : ℕ
+  pub core : Core
+  pub steps : ℕ
+  pub trail : List (List ℕ)
+
+unfoldable pub after : Core → Ran → Ran
+after d r = record { ending = r .ending; core = r .core; steps = suc (r .steps); trail = d .frames ∷ r .trail }
+
+-- 'Halt counts as a step; a stopped instruction doesn't'; 5 when the budget is completed
+unfoldable pub go : Sizes → Image → ℕ → Core → Ran
+go lent im zero c = record { ending = 5; core = c; steps = 0; trail = [] }
+go lent im (suc b) c =
+    elim (step lent im c) [
+      | next d ↦ after d (go lent im b d)
+      | halted ↦ record { ending = 0; core = c; steps = 1; trail = [] }
+      | stop e ↦ record { ending = e; core = c; steps = 0; trail = [] }
+    ]
+
+-- 'A run on non-empty code writes frame 0 with (length − 2) modulo 2^64, even if pc is past the end'
+unfoldable pub root : ℕ → ℕ
+root n = (n + (2 ^ 64 - 2)) % 2 ^ 64
+
+unfoldable pub entered : ℕ → Core → Core
+entered n c = setFrames (set (c .frames) 0 (root n)) c
+
+-- 'After every end but 0 and 5 the stored pc is the one from before the run'
+unfoldable pub stored : ℕ → ℕ → Core → Core
+stored e p c = elim (eqb e 0 || eqb e 5) [ true ↦ c | false ↦ setPc p c ]
