@@ -1,0 +1,94 @@
+-- Demand 3: 'A smaller and a larger terminal, given the same list of calls, agree on everything until the smaller runs out; and cut at
+-- the same instruction the larger holds the same.' Over the definition of the machine, in two forms. Definitions only.
+use mathlib.Core.Path.{_≡_}
+use Prim.Native.Nat.{ℕ, _+_}
+use mathlib.Core.Bool.{true, false}
+use mathlib.Core.List.{List, [], _∷_}
+use Rattle.vm.specs.Core.{_⊑_, setPc}
+use Rattle.vm.specs.Image.{Image}
+use Rattle.vm.specs.Machine.{Lent, Machine, sizes, view, Call, run, light, host, Answer, ended, value, done, refused, ranOut, perform, begun, start}
+
+-- a call made on both machines, with the same arguments; 'each run is lent an image, .. the same on both machines'. `more` is what the
+-- larger's budget has on top
+pub record Pair : Type 0 where
+  pub call : Call
+  pub more : ℕ
+
+unfoldable pub raised : Call → ℕ → Call
+raised (run im b) n = run im (b + n)
+raised (light k) n = light k
+raised (host k) n = host k
+
+-- what is compared: registers, stored pc, frames in use, 'pushed pages .. in places, bytes and last length', active slots, count of names
+unfoldable pub Same : Machine → Machine → Type 0
+Same s l = view s ≡ view l
+
+-- 'n is the steps in the smaller's answer; the larger answers 5, n, and as next pc the place of the instruction the smaller stopped at or
+-- would do next; stored pcs aren't compared there'. s is the smaller after that run, l the larger before it
+unfoldable pub CutAt : Image → Machine → Machine → Answer → Type 0
+CutAt im s l (ended e p n) = (perform (run im n) l .answer ≡ ended 5 p n) × (view (perform (run im n) l .machine) ≡ setPc p (view s))
+CutAt im s l (value v) = ⊥
+CutAt im s l done = ⊥
+CutAt im s l (refused e) = ⊥
+
+unfoldable pub Cut : Call → Machine → Machine → Answer → Type 0
+Cut (run im b) s l a = CutAt im s l a
+Cut (light k) s l a = Unit {0}
+Cut (host k) s l a = Unit {0}
+
+-- ---- step by step: the same before the first call and after each call before the first in which the smaller runs out, with the same
+-- answers; and where that first one is a run, the larger can be cut at the same instruction
+unfoldable pub Agree : Machine → Machine → List Pair → Type 0
+Agree s l [] = Same s l
+Agree s l (p ∷ ps) =
+    Same s l
+    × (ranOut (perform (p .call) s .answer) ≡ false
+    → (perform (raised (p .call) (p .more)) l .answer ≡ perform (p .call) s .answer)
+    × Agree (perform (p .call) s .machine) (perform (raised (p .call) (p .more)) l .machine) ps)
+    × (ranOut (perform (p .call) s .answer) ≡ true → Cut (p .call) (perform (p .call) s .machine) l (perform (p .call) s .answer))
+
+-- 'The list begins at what both starts returned and left', whatever the buffers held
+unfoldable pub Demand3 : Type 0
+Demand3 =
+    (im : Image) (base : ℕ) (small large : Lent) (s l : Machine)
+    → start im base small ≡ begun s → start im base large ≡ begun l → sizes small ⊑ sizes large
+    → (calls : List Pair) → Agree s l calls
+
+-- ---- as the paper puts it: 'one claim about the whole list'
+
+-- all answers to a list of calls, and the machine after it
+pub record Story : Type 0 where
+  pub answers : List Answer
+  pub machine : Machine
+
+unfoldable pub told : List Call → Machine → Story
+told [] m = record { answers = []; machine = m }
+told (k ∷ ks) m =
+    let r = told ks (perform k m .machine) in
+    record { answers = perform k m .answer ∷ r .answers; machine = r .machine }
+
+unfoldable pub smaller : List Pair → List Call
+smaller [] = []
+smaller (p ∷ ps) = p .call ∷ smaller ps
+
+unfoldable pub larger : List Pair → List Call
+larger [] = []
+larger (p ∷ ps) = raised (p .call) (p .more) ∷ larger ps
+
+unfoldable pub NoneOut : List Answer → Type 0
+NoneOut [] = Unit {0}
+NoneOut (a ∷ as′) = (ranOut a ≡ false) × NoneOut as′
+
+-- after a list in which the smaller did not run out: all answers, all that is compared, and the cut of a run after it in which it does
+pub record Level (s l : Machine) (ps : List Pair) : Type 0 where
+  pub answers : told (larger ps) l .answers ≡ told (smaller ps) s .answers
+  pub held : Same (told (smaller ps) s .machine) (told (larger ps) l .machine)
+  pub cut : (im : Image) (b : ℕ)
+      → ranOut (perform (run im b) (told (smaller ps) s .machine) .answer) ≡ true
+      → CutAt im (perform (run im b) (told (smaller ps) s .machine) .machine) (told (larger ps) l .machine) (perform (run im b) (told (smaller ps) s .machine) .answer)
+
+unfoldable pub Demand3-told : Type 0
+Demand3-told =
+    (im : Image) (base : ℕ) (small large : Lent) (s l : Machine)
+    → start im base small ≡ begun s → start im base large ≡ begun l → sizes small ⊑ sizes large
+    → (calls : List Pair) → NoneOut (told (smaller calls) s .answers) → Level s l calls

@@ -1,0 +1,2 @@
+-- What is claimed of terminals of different sizes.
+pub mod Demand3

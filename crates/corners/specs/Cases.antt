@@ -1,0 +1,159 @@
+-- Each case marked (P) in document 01, and its worked image, as rows of one table, and the one fact, by computation, that all rows hold. What
+-- speaks of the whole machine goes through its own start, calls and run. Assumes nothing.
+use mathlib.Core.Path.{_≡_, refl}
+use mathlib.Core.Bool.{Bool, true, false, cond, not, _&&_, _||_}
+use mathlib.Core.Option.{Option, none, some}
+use mathlib.Core.List.{List, [], _∷_, _++_}
+use Prim.Native.Nat.{ℕ, zero, suc, _+_, _-_, _*_, _^_}
+use lib.ListN.{length, getD, replicate}
+use lib.Bits.{bitAnd, bitXor}
+use lib.Ieee as Ieee
+use lib.Ieee.{isNan, ofBits, toBits, ofInt, toSigned}
+use Rattle.memory.specs.Bytes.{bytesOf, valueOf}
+use Rattle.memory.specs.Lists.{over, write, same}
+use Rattle.memory.specs.Rows.{hold}
+use Rattle.value.specs.declared.int.Divided.{Divided}
+use Rattle.value.specs.declared.int.Divided.the-variants.{Exact, ByZero, Overflow}
+use Rattle.value.specs.Int.{signed, pattern, quotientOf, remainderOf}
+use Rattle.value.specs.Int as Int
+use Rattle.value.specs.Double.{bits}
+use Rattle.value.specs.Cast.{castToInt, castToDouble}
+use Rattle.string.specs.Hash.{mixed, folded, chunks, hashOf, smallHashOf}
+use Rattle.string.specs.Payload.{payloadOf, reaches, headed, holds}
+use Rattle.string.specs.Table.{home, probe, lookup, never, filled, placed}
+use Rattle.string.specs.Grow.{read, storedHash, movedOne, moved, enlarged, roomOf, widened, roomy, spared}
+use Rattle.string.specs.Sound as Table
+use Rattle.gc.specs.Metadata.{headerOf}
+use Rattle.gc.specs.Pages as Pages
+use Rattle.gc.specs.Lent.{pagesOf, numbersOf}
+use Rattle.gc.specs.Lent as Heap
+use Rattle.op.specs.Decode as Op
+use Rattle.op.specs.Decode.{decodedBy, decodeOf}
+use Rattle.op.specs.Reach.{checkOf}
+use Rattle.vm.specs.Core.{used, lacking, short, setReg, setPc, setFrames, setLand, setPages, setBytes}
+use Rattle.vm.specs.Image.{Image, Tables, startOf, entriesOf, counts, rising, tablesOk, imageOk, endsInHalt, below, wordTest, wordTests, imageTests}
+use Rattle.vm.specs.Effect.{divided, jumpIf, within, slot, switched, effectOf}
+use Rattle.vm.specs.Run.{provided, forward, addressed, loaded, stored8, returned, took, apply, wordEffect, fetched, unless, limited, step, after, go, root, entered, stored}
+use Rattle.vm.specs.Names as Names
+use Rattle.vm.specs.Machine.{Lent, Machine, sizes, landOf, view, withPages, withNames, traced, withFrames, withRegs, Host, allocate, option, intern, internSmall, Call, run, light, host, Answer, ended, value, done, refused, Called, ran, idle, runs, hosted, lightly, runLeaves, hostLeaves, granted, hostCall, runCall, act, framesOk, heapOk, slotsOk, returnsOk, framesBelong, pagesBelong, namesBelong, smallOk, tests, failing, tried, perform, Started, declined, begun, firstPage, firstLand, blank, begin, starts, start}
+
+-- ---- images, buffers, and what is read off
+
+abbrev noTables : Tables
+noTables = record { firsts = []; ends = []; entries = [] }
+
+abbrev image : List ℕ → Tables → Image
+image code switches = record { code = code; globals = []; switches = switches; lookups = noTables; defaults = [] }
+
+-- the heap's base in all cases
+abbrev B : ℕ
+B = 0x10000
+
+-- so many frames, two pages, so many slots
+unfoldable pub lent : ℕ → ℕ → Lent
+lent frames slots = record { frames = replicate frames 0; heap = replicate 8192 0; slots = replicate slots 0; spare = replicate slots 0 }
+
+unfoldable pub startedIn : Lent → Started → Machine
+startedIn l (declined e) = blank 0 l
+startedIn l (begun m) = m
+
+-- a machine started on no code
+unfoldable pub fresh : ℕ → ℕ → Machine
+fresh frames slots = startedIn (lent frames slots) (start (image [] noTables) B (lent frames slots))
+
+unfoldable pub afterAll : List Call → Machine → Machine
+afterAll [] m = m
+afterAll (k ∷ ks) m = afterAll ks (perform k m .machine)
+
+-- a value, or an end with its pc and steps as one number, or a refusal, told apart from every value
+unfoldable pub said : Answer → ℕ
+said (ended e pc steps) = e * 2 ^ 64 + pc * 2 ^ 32 + steps
+said (value v) = v
+said done = 0
+said (refused e) = 2 ^ 64 + e
+
+abbrev answered : Call → Machine → ℕ
+answered k m = said (perform k m .answer)
+
+abbrev register : ℕ → Machine → ℕ
+register r m = getD (m .state .regs) r 0
+
+-- names of one byte each: n of them
+unfoldable pub singles : ℕ → List Call
+singles zero = []
+singles (suc n) = host (intern (n ∷ [])) ∷ singles n
+
+-- a division's pattern; its ends are not among these cases
+unfoldable pub shown : Divided → ℕ
+shown (Exact p) = p
+shown ByZero = 2 ^ 64 + 1
+shown Overflow = 2 ^ 64 + 7
+
+-- LoadI r0, subject; Switch on Str over seven slots; Halt; then r1 = 1 for slot 0 and r1 = 6 for slot 6
+unfoldable pub switching : ℕ → Image
+switching subject =
+    image
+    ((27 + subject * 2 ^ 32) ∷ 36 ∷ 59 ∷ (27 + 0x100 + 1 * 2 ^ 32) ∷ 59 ∷ (27 + 0x100 + 6 * 2 ^ 32) ∷ 59 ∷ [])
+    (record { firsts = (B + 48) ∷ []; ends = 7 ∷ []; entries = 3 ∷ 2 ∷ 2 ∷ 2 ∷ 2 ∷ 2 ∷ 5 ∷ [] })
+
+-- Call 0; Halt
+unfoldable pub calling : Image
+calling = image (39 ∷ 59 ∷ []) noTables
+
+-- the worked image of 'Instruction and image'
+unfoldable pub worked : Image
+worked = image (0x000000070000001b ∷ 0xffffffff00000101 ∷ 0x000000000000003b ∷ []) noTables
+
+unfoldable pub rows : List (ℕ × ℕ)
+rows =
+    -- string.rs: the hash of the empty string is 0, by `hash` and by `small_hash`
+    (hashOf [], 0)
+    ∷ (smallHashOf 0 0, 0)
+    -- first `insert` makes 64 slots; 32 strings fit; the 33rd makes 128
+    ∷ (afterAll (singles 1) (fresh 1 128) .state .strings .active, 64)
+    ∷ (afterAll (singles 32) (fresh 1 128) .state .strings .active, 64)
+    ∷ (afterAll (singles 33) (fresh 1 128) .state .strings .active, 128)
+    -- gc.rs: `Vm::new_in` boxes [0, 0]: `none` is B+16 and page 0 has length 32
+    ∷ (answered (host (option none)) (fresh 1 64), B + 16)
+    ∷ (fresh 1 64 .state .gc .len, 32)
+    -- then interning empty, `a`, `a` gives B+48, B+72, B+72; page length 81
+    ∷ (answered (host (intern [])) (fresh 1 64), B + 48)
+    ∷ (answered (host (intern (97 ∷ []))) (afterAll (host (intern []) ∷ []) (fresh 1 64)), B + 72)
+    ∷ (answered (host (intern (97 ∷ []))) (afterAll (host (intern []) ∷ host (intern (97 ∷ [])) ∷ []) (fresh 1 64)), B + 72)
+    ∷ (afterAll (host (intern []) ∷ host (intern (97 ∷ [])) ∷ host (intern (97 ∷ [])) ∷ []) (fresh 1 64) .state .gc .len, 81)
+    -- after a start, size 4,048 fits page 0; size 4,049 opens a page, and the block is B+4,112
+    ∷ (answered (host (allocate 0 8 4048)) (fresh 1 64), B + 48)
+    ∷ (afterAll (host (allocate 0 8 4048) ∷ []) (fresh 1 64) .state .gc .pushed, 4096)
+    ∷ (answered (host (allocate 0 8 4049)) (fresh 1 64), B + 4112)
+    -- `grow` for size 4,072 makes 4,096 bytes, for 4,073 it makes 8,192
+    ∷ (Pages.growOf 4096 4072, 4096)
+    ∷ (Pages.growOf 4096 4073, 8192)
+    -- value/mod.rs: `CastToInt` of a NaN, −0.5, 2^63, −2^63
+    ∷ (castToInt 0x7ff8_0000_0000_0000, 0)
+    ∷ (castToInt 0xbfe0_0000_0000_0000, 0)
+    ∷ (castToInt 0x43e0_0000_0000_0000, 2 ^ 63 - 1)
+    ∷ (castToInt 0xc3e0_0000_0000_0000, 2 ^ 63)
+    -- `CastToDouble` of 2^53+1 and 2^53+3
+    ∷ (castToDouble (2 ^ 53 + 1), 0x4340_0000_0000_0000)
+    ∷ (castToDouble (2 ^ 53 + 3), 0x4340_0000_0000_0002)
+    -- vm.rs: −7 divided by 2 is −3, remainder −1
+    ∷ (shown (quotientOf (2 ^ 64 - 7) 2), 2 ^ 64 - 3)
+    ∷ (shown (remainderOf (2 ^ 64 - 7) 2), 2 ^ 64 - 1)
+    -- `Switch` on Str, first B+48: subject B+72 is slot 6, subject B+50 slot 0
+    ∷ (register 1 (perform (run (switching (B + 72)) 10) (fresh 1 64) .machine), 6)
+    ∷ (register 1 (perform (run (switching (B + 50)) 10) (fresh 1 64) .machine), 1)
+    -- `Call` at depth 1 with one frame ends 3, at its own place and after no step
+    ∷ (answered (run calling 10) (fresh 1 64), 3 * 2 ^ 64)
+    -- the worked image: end 0, pc 2, 3 steps; r0 is 7, r1 is 6; depth 1, one page of length 32, no string
+    ∷ (answered (run worked 10) (fresh 4 64), 2 * 2 ^ 32 + 3)
+    ∷ (register 0 (perform (run worked 10) (fresh 4 64) .machine), 7)
+    ∷ (register 1 (perform (run worked 10) (fresh 4 64) .machine), 6)
+    ∷ (perform (run worked 10) (fresh 4 64) .machine .state .depth, 1)
+    ∷ (perform (run worked 10) (fresh 4 64) .machine .state .gc .pushed, 4096)
+    ∷ (perform (run worked 10) (fresh 4 64) .machine .state .gc .len, 32)
+    ∷ (perform (run worked 10) (fresh 4 64) .machine .state .strings .len, 0)
+    ∷ []
+
+pub all-hold : hold rows ≡ true
+unfolding rows hold lent startedIn fresh afterAll said singles shown switching calling worked bytesOf valueOf over write same signed pattern Int.divided bits isNan ofBits toBits ofInt toSigned mixed folded chunks hashOf smallHashOf payloadOf reaches headed holds home probe lookup never filled placed read storedHash movedOne moved enlarged roomOf widened roomy spared Table.slotCount Table.activeOk Table.one Table.filledIn Table.headerIn Table.headersIn Table.countOk Table.slotsOk Table.soundOf headerOf Pages.growOf Pages.gapOf Pages.holds Pages.block Pages.pushed Pages.fitted Pages.allocated pagesOf numbersOf Heap.soundOf Op.rows decodedBy decodeOf checkOf used lacking short setReg setPc setFrames setLand setPages setBytes startOf entriesOf counts rising tablesOk imageOk endsInHalt below wordTest wordTests imageTests divided jumpIf within slot switched effectOf provided forward addressed loaded stored8 returned took apply wordEffect fetched unless limited step after go root entered stored Names.filled Names.took Names.allocates Names.boxed Names.optional Names.entered Names.fresh Names.known Names.interned sizes landOf view withPages withNames traced withFrames withRegs ran idle runs hosted lightly runLeaves hostLeaves granted hostCall runCall act framesOk heapOk slotsOk returnsOk framesBelong pagesBelong namesBelong smallOk tests failing tried perform firstPage firstLand blank begin starts start
+all-hold = refl
