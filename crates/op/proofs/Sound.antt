@@ -3,29 +3,24 @@
 use Prim.Native.Nat.{ℕ, zero, suc, _≤_, _<_, _^_}
 use mathlib.Core.Bool.{Bool, true, false, cond, _&&_}
 use mathlib.Core.List.{List, [], _∷_}
-use mathlib.Core.Path.{_≡_, refl, sym, subst}
+use mathlib.Core.Path.{_≡_, refl, subst}
 use native.Mathlib.Omega.{arith}
 use lib.Dec.{ltb}
 use lib.ListN.{getD}
 use borrow.Author.Tests.{ltb-true}
-use Rattle.op.specs.Layout.{partsOf, holds, passes, isAlignment, Field, unused, register, switchKind, allocKind, alignment, anyByte, anyNumber}
-use Rattle.op.specs.Decode.{Row, row, absent, rowOf, checkedOf, decodedBy, decodeOf}
+use Rattle.op.specs.Layout.{Parts, partsOf, holds, passes, isAlignment, Field, unused, register, switchKind, allocKind, alignment, anyByte, anyNumber}
+use Rattle.op.specs.Decode.{Row, row, absent, rows, rowOf, checkedOf, decodedBy, decodeOf}
 use Rattle.op.specs.Reach.{reachOf, insideOf, within, judged, checkOf}
 use Rattle.op.specs.Operands.{okOp, Within}
-use Rattle.op.specs.declared.word.Parts.{Parts}
 use Rattle.op.specs.declared.Op.{Op}
 use Rattle.op.specs.declared.Decoded.{Decoded}
 use Rattle.op.specs.declared.Reach.{Reach}
 use Rattle.op.specs.declared.Reach.the-variants.{Nothing, Code, Global, SwitchTable, LookupTable}
 use Rattle.op.specs.declared.Counts.{Counts}
 use Rattle.op.specs.declared.Checked.{Checked}
-use Rattle.op.proofs.Formats.{Format, format, none, formatOf, formats, table, format-at}
+use Rattle.anomaly.proofs.Numbers.{both}
 
 -- ---- From the tests of a word to what they test ----
-
-both : (a b : Bool) → (a && b) ≡ true → (a ≡ true) × (b ≡ true)
-both true b h = (refl, h)
-both false b h = (h, cc)
 
 abbrev Holds : Field → ℕ → Type 0
 Holds unused n = n < 1
@@ -63,52 +58,84 @@ parts-in one two three number p h =
       number = tested number (p .number) (all .1);
     }
 
--- ---- The operands of each format ----
+-- ---- The operands of each row ----
 
-abbrev Sound : Format → Type 0
-Sound (format one two three number reach ok) = (p : Parts) → p .target < 2 ^ 16 → In one two three number p → ok p
-Sound none = Unit {0}
+abbrev Sound : Row → Type 0
+Sound (row one two three number op) = (p : Parts) → p .target < 2 ^ 16 → In one two three number p → okOp (op p)
+Sound absent = Unit {0}
 
-abbrev AllSound : List Format → Type 0
+abbrev AllSound : List Row → Type 0
 AllSound [] = Unit {0}
-AllSound (f ∷ fs) = Sound f × AllSound fs
+AllSound (r ∷ rs) = Sound r × AllSound rs
 
-sound-at : (fs : List Format) → AllSound fs → (k : ℕ) → Sound (getD fs k none)
+sound-at : (rs : List Row) → AllSound rs → (k : ℕ) → Sound (getD rs k absent)
 sound-at [] all k = tt
-sound-at (f ∷ fs) all zero = all .0
-sound-at (f ∷ fs) all (suc k) = sound-at fs (all .1) k
+sound-at (r ∷ rs) all zero = all .0
+sound-at (r ∷ rs) all (suc k) = sound-at rs (all .1) k
 
 -- a pair, for a long one that reads down the page
 infixr 5 _also_
 _also_ : {A B : Type 0} → A → B → A × B
 a also b = (a, b)
 
--- in the order of `formats`
-all-sound : AllSound formats
-unfolding formats
+module _ {a b c d : Field} (p : Parts) (target : p .target < 2 ^ 16) (h : In a b c d p) where
+  three-registers : Holds a (p .one) × Holds b (p .two) × Holds c (p .three)
+  three-registers = (h .one, h .two, h .three)
+
+  two-registers : Holds a (p .one) × Holds b (p .two)
+  two-registers = (h .one, h .two)
+
+  one-register : Holds a (p .one)
+  one-register = h .one
+
+  one-and-number : Holds a (p .one) × Holds d (p .number)
+  one-and-number = (h .one, h .number)
+
+  jump : p .target < 2 ^ 16
+  jump = target
+
+  jump-if : Holds a (p .one) × (p .target < 2 ^ 16)
+  jump-if = (h .one, target)
+
+  jump-two : Holds a (p .one) × Holds d (p .number) × (p .target < 2 ^ 16)
+  jump-two = (h .one, h .number, target)
+
+  two-and-number : Holds a (p .one) × Holds b (p .two) × Holds d (p .number)
+  two-and-number = (h .one, h .two, h .number)
+
+  lookup : Holds c (p .three) × Holds a (p .one) × Holds b (p .two) × Holds d (p .number)
+  lookup = (h .three, h .one, h .two, h .number)
+
+  only-number : Holds d (p .number)
+  only-number = h .number
+
+  alloc : Holds a (p .one) × Holds b (p .two) × Holds d (p .number) × Holds c (p .three)
+  alloc = (h .one, h .two, h .number, h .three)
+
+  store : Holds a (p .one) × Holds d (p .number) × Holds b (p .two)
+  store = (h .one, h .number, h .two)
+
+  bare : Unit {0}
+  bare = tt
+
+all-sound : AllSound rows
+unfolding rows
 all-sound =
-    tt also
-    (λ p t h. (h .one, h .two, h .three)) also
-    (λ p t h. (h .one, h .two)) also
-    (λ p t h. (h .one, h .two)) also
-    (λ p t h. h .one) also
-    (λ p t h. (h .one, h .number)) also
-    (λ p t h. t) also
-    (λ p t h. (h .one, t)) also
-    (λ p t h. (h .one, t)) also
-    (λ p t h. (h .one, h .number, t)) also
-    (λ p t h. (h .one, h .two, h .number)) also
-    (λ p t h. (h .three, h .one, h .two, h .number)) also
-    (λ p t h. h .number) also
-    (λ p t h. (h .one, h .two, h .number, h .three)) also
-    (λ p t h. (h .one, h .number, h .two)) also
-    (λ p t h. (h .one, h .two, h .number)) also
-    (λ p t h. h .one) also
-    (λ p t h. tt) also
+    three-registers also two-registers also three-registers also two-registers also three-registers also two-registers also
+    three-registers also two-registers also three-registers also two-registers also three-registers also two-registers also
+    three-registers also three-registers also three-registers also two-registers also two-registers also two-registers also
+    three-registers also three-registers also three-registers also three-registers also three-registers also three-registers also three-registers also three-registers also
+    two-registers also one-register also one-and-number also
+    jump also jump-if also jump-if also jump-if also jump-if also jump-two also jump-two also
+    two-and-number also lookup also only-number also only-number also
+    tt also tt also tt also tt also tt also tt also tt also tt also tt also tt also
+    two-registers also two-registers also two-registers also
+    alloc also store also two-and-number also two-and-number also
+    bare also one-register also bare also bare also
     tt
 
-sound-row : (k : ℕ) → Sound (formatOf (rowOf k))
-sound-row k = subst Sound (sym (format-at k)) (sound-at formats all-sound (getD table k 0))
+sound-row : (k : ℕ) → Sound (rowOf k)
+sound-row = sound-at rows all-sound
 
 -- ---- Decoded words ----
 
@@ -120,7 +147,7 @@ by-test : (fits : Bool) (op : Op) → (fits ≡ true → okOp op) → okDecoded 
 by-test true op h = h refl
 by-test false op h = omega arith
 
-by-row : (r : Row) (p : Parts) → p .target < 2 ^ 16 → Sound (formatOf r) → okDecoded (decodedBy r p)
+by-row : (r : Row) (p : Parts) → p .target < 2 ^ 16 → Sound r → okDecoded (decodedBy r p)
 unfolding decodedBy
 by-row (row one two three number op) p target sound =
     by-test (passes one two three number p) (op p) (λ h. sound p target (parts-in one two three number p h))

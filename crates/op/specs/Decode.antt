@@ -3,8 +3,7 @@ use Prim.Native.Nat.{ℕ}
 use mathlib.Core.Bool.{Bool, cond}
 use mathlib.Core.List.{List, [], _∷_}
 use lib.ListN.{getD}
-use Rattle.op.specs.Layout.{partsOf, passes, Field, unused, register, switchKind, allocKind, alignment, anyByte, anyNumber}
-use Rattle.op.specs.declared.word.Parts.{Parts}
+use Rattle.op.specs.Layout.{Parts, partsOf, passes, Field, unused, register, switchKind, allocKind, alignment, anyByte, anyNumber}
 use Rattle.op.specs.declared.Op.{Op}
 use Rattle.op.specs.declared.Op.the-variants.{IAdd, IAddI, ISub, ISubI, IMul, IMulI, IDiv, IDivI, IMod, IModI, IAnd, IAndI}
 use Rattle.op.specs.declared.Op.the-variants.{ILt, IGt, IEq, IEqI, IGtI, ILtI, DAdd, DSub, DMul, DDiv, DLt, DGt, BEq, SEq}

@@ -2,7 +2,16 @@
 use Prim.Native.Nat.{ℕ, _+_, _-_, _%_, _/_, _^_}
 use mathlib.Core.Bool.{Bool, cond, _&&_, _||_}
 use lib.Dec.{eqb, ltb}
-use Rattle.op.specs.declared.word.Parts.{Parts}
+
+-- the parts of a word: bytes 0 to 3, bytes 2 and 3 together, and bytes 4 to 7, as they stand and as a signed number
+pub record Parts : Type 0 where
+  pub opcode : ℕ
+  pub one : ℕ
+  pub two : ℕ
+  pub three : ℕ
+  pub target : ℕ
+  pub number : ℕ
+  pub signed : ℕ
 
 -- 'A word is 64 bits; byte 0 is lowest'
 abbrev pub byte : ℕ → ℕ → ℕ
@@ -49,7 +58,3 @@ holds anyNumber n = ltb n (2 ^ 32)
 -- bytes 1, 2 and 3 and the number in bytes 4 to 7 hold what they may
 abbrev pub passes : Field → Field → Field → Field → Parts → Bool
 passes one two three number p = holds one (p .one) && holds two (p .two) && holds three (p .three) && holds number (p .number)
-
--- the same by bounds
-abbrev pub below : ℕ → ℕ → ℕ → ℕ → Parts → Bool
-below one two three number p = ltb (p .one) one && ltb (p .two) two && ltb (p .three) three && ltb (p .number) number

@@ -2,5 +2,6 @@
 pub mod Layout
 pub mod Decode
 pub mod Reach
+pub mod Masks
 pub mod Operands
 pub mod Cases

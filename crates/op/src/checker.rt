@@ -1,62 +1,45 @@
-// Whether an image may hold a word. This is for every word of an image, before a run: it goes by a table of formats, and leaves
+// Whether an image may hold a word. This is for every word of an image, before a run: it goes by a table of masks, and leaves
 // `decode` to the loop of the run.
 ghost use mathlib.Core.Path.{_≡_};
 ghost use mathlib.Core.Bool.{cond};
+ghost use Prim.Native.Nat.{_%_};
+ghost use Rattle.op.specs.Layout.{partsOf, isAlignment};
+ghost use Rattle.op.specs.Decode.{rowOf};
+ghost use Rattle.op.specs.Masks.{maskOfRow, restOf};
 ghost use Rattle.op.specs.Reach.{checkOf, insideOf, reachOf};
 use crate::Checked;
 use crate::Counts;
-use crate::INDEX;
-use crate::OPCODE;
-use crate::OPERAND;
 use crate::Op;
 use crate::Reach;
-use crate::TARGET;
-use crate::word::ANY;
-use crate::word::KEY;
-use crate::word::NONE;
-use crate::word::NUM;
-use crate::word::Parts;
-use crate::word::REG;
+use crate::word::ALLOC;
+use crate::word::BARE;
+use crate::word::CONDITION;
+use crate::word::FUNCTION;
+use crate::word::GLOBAL;
+use crate::word::IMMEDIATE;
+use crate::word::JUMP;
+use crate::word::JUMP_IF;
+use crate::word::JUMP_IMMEDIATE;
+use crate::word::JUMP_TWO;
+use crate::word::LOAD;
+use crate::word::LOOKUP;
+use crate::word::STORE;
+use crate::word::SWITCH;
+use crate::word::THREE;
+use crate::word::TWO;
+use crate::word::VALUE;
+use crate::word::fits;
+use crate::word::is_alignment;
+use crate::word::number;
+use crate::word::target;
+use crate::word::three;
+use anomaly::Refusal;
 
-// The formats are the lines of the picture at the head of the crate, from 1; an opcode that is not carried has none.
-const ABSENT: u8 = 0;
+// No format has a bit of the opcode in its mask.
+const ABSENT: u64 = 1;
 
-const THREE: u8 = 1;
-
-const IMMEDIATE: u8 = 2;
-
-const TWO: u8 = 3;
-
-const VALUE: u8 = 4;
-
-const GLOBAL: u8 = 5;
-
-const JUMP: u8 = 6;
-
-const JUMP_IF: u8 = 7;
-
-const JUMP_IMMEDIATE: u8 = 8;
-
-const JUMP_TWO: u8 = 9;
-
-const SWITCH: u8 = 10;
-
-const LOOKUP: u8 = 11;
-
-const FUNCTION: u8 = 12;
-
-const ALLOC: u8 = 13;
-
-const STORE: u8 = 14;
-
-const LOAD: u8 = 15;
-
-const CONDITION: u8 = 16;
-
-const BARE: u8 = 17;
-
-// The format of each opcode.
-const FORMAT: [u8; 61] = [
+// The mask of each opcode.
+const MASK: [u64; 61] = [
     THREE, // IAdd
     IMMEDIATE, // IAddI
     THREE, // ISub
@@ -120,57 +103,65 @@ const FORMAT: [u8; 61] = [
     BARE, // Nop
 ];
 
-fn operands(fits: bool) -> Checked
-    ensures { λ r. ⌜ r ≡ cond fits Checked.Fine (Checked.Refused 13) ⌝ }
+fn mask(opcode: usize) -> u64
+    ensures { λ r. ⌜ r ≡ maskOfRow (rowOf opcode) ⌝ }
 {
-    if fits {
+    if opcode < 61 { MASK[opcode] } else { ABSENT }
+}
+
+fn aligned(align: usize) -> Checked
+    ensures { λ r. ⌜ r ≡ cond (isAlignment align) Checked.Fine (Checked.Refused 13) ⌝ }
+{
+    if is_alignment(align) {
         Checked::Fine
     } else {
-        Checked::Refused(OPERAND)
+        Checked::Refused(Refusal::OPERAND)
     }
 }
 
-// The operands, and then whether what they name is below its count.
-fn inside(fits: bool, at: usize, count: usize, refusal: u64) -> Checked
-    ensures { λ r. ⌜ r ≡ cond fits (insideOf at count refusal) (Checked.Refused 13) ⌝ }
+fn inside(at: usize, count: usize, refusal: u64) -> Checked
+    ensures { λ r. ⌜ r ≡ insideOf at count refusal ⌝ }
 {
-    if fits {
-        if at < count {
-            return Checked::Fine;
-        }
-        return Checked::Refused(refusal);
+    if at < count {
+        Checked::Fine
+    } else {
+        Checked::Refused(refusal)
     }
-    Checked::Refused(OPERAND)
+}
+
+// What its mask leaves of a word: an alignment, or whether what it names is below its count.
+fn rest(w: u64, n: Counts) -> Checked
+    ensures { λ r. ⌜ r ≡ restOf (rowOf (w % 256)) n (partsOf w) ⌝ }
+{
+    let opcode = w % 256;
+    match opcode {
+        // LoadG
+        28 => inside(number(w), n.globals, Refusal::INDEX),
+        // Jmp to JmpSNe
+        29..=35 => inside(target(w), n.code, Refusal::TARGET),
+        // Switch
+        36 => inside(number(w), n.switches, Refusal::INDEX),
+        // Lookup
+        37 => inside(number(w), n.lookups, Refusal::INDEX),
+        // Tail, Call
+        38..=39 => inside(number(w), n.code, Refusal::TARGET),
+        // Alloc
+        53 => aligned(three(w)),
+        _ => Checked::Fine,
+    }
 }
 
 pub fn check(w: u64, n: Counts) -> Checked
     ensures { λ r. ⌜ r ≡ checkOf n w ⌝ }
 {
-    let p = Parts::new(w);
-    let opcode = p.opcode;
-    if 60 < opcode {
-        return Checked::Refused(OPCODE);
+    let mask = mask((w % 256) as usize);
+    if mask == ABSENT {
+        return Checked::Refused(Refusal::OPCODE);
     }
-    let format = FORMAT[opcode];
-    match format {
-        THREE => operands(p.fits(REG, REG, REG, NONE)),
-        IMMEDIATE => operands(p.fits(REG, REG, NONE, NUM)),
-        TWO => operands(p.fits(REG, REG, NONE, NONE)),
-        VALUE => operands(p.fits(REG, NONE, NONE, NUM)),
-        GLOBAL => inside(p.fits(REG, NONE, NONE, NUM), p.number, n.globals, INDEX),
-        JUMP => inside(p.fits(NONE, ANY, ANY, NONE), p.target, n.code, TARGET),
-        JUMP_IF => inside(p.fits(REG, ANY, ANY, NONE), p.target, n.code, TARGET),
-        JUMP_IMMEDIATE => inside(p.fits(REG, ANY, ANY, NUM), p.target, n.code, TARGET),
-        JUMP_TWO => inside(p.fits(REG, ANY, ANY, REG), p.target, n.code, TARGET),
-        SWITCH => inside(p.fits(KEY, REG, NONE, NUM), p.number, n.switches, INDEX),
-        LOOKUP => inside(p.fits(REG, REG, KEY, NUM), p.number, n.lookups, INDEX),
-        FUNCTION => inside(p.fits(NONE, NONE, NONE, NUM), p.number, n.code, TARGET),
-        ALLOC => operands(p.fits_alloc()),
-        STORE => operands(p.fits(REG, REG, NONE, NUM)),
-        LOAD => operands(p.fits(REG, REG, NONE, NUM)),
-        CONDITION => operands(p.fits(REG, NONE, NONE, NONE)),
-        BARE => operands(p.fits(NONE, NONE, NONE, NONE)),
-        _ => Checked::Refused(OPCODE),
+    if fits(w, mask) {
+        rest(w, n)
+    } else {
+        Checked::Refused(Refusal::OPERAND)
     }
 }
 

@@ -358,12 +358,3 @@ pub enum Checked {
     Fine,
     Refused(u64),
 }
-
-// Refusals: an opcode that is not carried, what an operand may not hold, a place past the code, an index past its count.
-pub const OPCODE: u64 = 12;
-
-pub const OPERAND: u64 = 13;
-
-pub const TARGET: u64 = 14;
-
-pub const INDEX: u64 = 15;

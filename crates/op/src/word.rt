@@ -1,42 +1,93 @@
-// The parts of a word, and what they may hold.
+// The parts of a word, and what must be zero in it.
 ghost use mathlib.Core.Path.{_≡_};
-ghost use Prim.Native.Nat.{_<_, _^_};
-ghost use Rattle.op.specs.Layout.{partsOf, extended, below, passes, isAlignment};
+ghost use lib.Bits.{bitAnd};
+ghost use lib.Dec.{eqb};
+ghost use Rattle.op.specs.Layout.{partsOf, passes, isAlignment};
 ghost use Rattle.op.specs.Layout.{register, allocKind, alignment, anyNumber};
 
-// What stands in a part of a word is below one of these: nothing, a register, the kind of a table's keys, the kind of a block,
-// any byte, any number.
-pub const NONE: usize = 1;
+// A mask for each line of the picture at the head of the crate: the bits that are zero in its words. A byte of it is ff where
+// the picture is empty, e0 for a register (below 32), fe for the kind of a table's keys (below 2), fc for the kind of a block
+// (below 4), and 00 for the opcode and what may hold any byte. A register in bytes 4 to 7 is ffff_ffe0.
+pub const THREE: u64 = 0xffff_ffff_e0e0_e000;
 
-pub const REG: usize = crate::REGISTER_COUNT;
+pub const IMMEDIATE: u64 = 0x0000_0000_ffe0_e000;
 
-pub const KEY: usize = 2;
+pub const TWO: u64 = 0xffff_ffff_ffe0_e000;
 
-pub const ALLOC_KIND: usize = 4;
+pub const VALUE: u64 = 0x0000_0000_ffff_e000;
 
-pub const ANY: usize = 256;
+pub const GLOBAL: u64 = 0x0000_0000_ffff_e000;
 
-pub const NUM: usize = 4294967296;
+pub const JUMP: u64 = 0xffff_ffff_0000_ff00;
 
-pub struct Parts {
-    // Bytes 0 to 3.
-    pub opcode: usize,
-    pub one: usize,
-    pub two: usize,
-    pub three: usize,
-    // Bytes 2 and 3 together.
-    pub target: usize,
-    // Bytes 4 to 7, and the same as a signed number, 64 bits wide.
-    pub number: usize,
-    pub signed: u64,
+pub const JUMP_IF: u64 = 0xffff_ffff_0000_e000;
+
+pub const JUMP_IMMEDIATE: u64 = 0x0000_0000_0000_e000;
+
+pub const JUMP_TWO: u64 = 0xffff_ffe0_0000_e000;
+
+pub const SWITCH: u64 = 0x0000_0000_ffe0_fe00;
+
+pub const LOOKUP: u64 = 0x0000_0000_fee0_e000;
+
+pub const FUNCTION: u64 = 0x0000_0000_ffff_ff00;
+
+pub const ALLOC: u64 = 0x0000_0000_00fc_e000;
+
+pub const STORE: u64 = 0x0000_0000_ffe0_e000;
+
+pub const LOAD: u64 = 0x0000_0000_ffe0_e000;
+
+pub const CONDITION: u64 = 0xffff_ffff_ffff_e000;
+
+pub const BARE: u64 = 0xffff_ffff_ffff_ff00;
+
+pub fn fits(w: u64, mask: u64) -> bool
+    ensures { λ r. ⌜ r ≡ eqb (bitAnd w mask) 0 ⌝ }
+{
+    w & mask == 0
 }
 
-// The 64-bit pattern of a signed number of 32 bits.
-fn extend(n: u64) -> u64
-    requires { ⌜ n < 2 ^ 32 ⌝ }
-    ensures { λ r. ⌜ r ≡ extended n ⌝ }
+// Byte 1.
+pub fn one(w: u64) -> usize
+    ensures { λ r. ⌜ r ≡ partsOf w .one ⌝ }
 {
-    std::num::wrapping_sub_u64((n + 2147483648) % 4294967296, 2147483648)
+    (w / 256 % 256) as usize
+}
+
+// Byte 2.
+pub fn two(w: u64) -> usize
+    ensures { λ r. ⌜ r ≡ partsOf w .two ⌝ }
+{
+    (w / 65536 % 256) as usize
+}
+
+// Byte 3.
+pub fn three(w: u64) -> usize
+    ensures { λ r. ⌜ r ≡ partsOf w .three ⌝ }
+{
+    (w / 16777216 % 256) as usize
+}
+
+// Bytes 2 and 3.
+pub fn target(w: u64) -> usize
+    ensures { λ r. ⌜ r ≡ partsOf w .target ⌝ }
+{
+    (w / 65536 % 65536) as usize
+}
+
+// Bytes 4 to 7.
+pub fn number(w: u64) -> usize
+    ensures { λ r. ⌜ r ≡ partsOf w .number ⌝ }
+{
+    (w / 4294967296 % 4294967296) as usize
+}
+
+// Bytes 4 to 7, as the 64-bit pattern of a signed number.
+pub fn signed(w: u64) -> u64
+    ensures { λ r. ⌜ r ≡ partsOf w .signed ⌝ }
+{
+    std::num::wrapping_sub_u64((w / 4294967296 + 2147483648) % 4294967296, 2147483648)
 }
 
 pub fn is_alignment(n: usize) -> bool
@@ -45,33 +96,9 @@ pub fn is_alignment(n: usize) -> bool
     (n == 1) | (n == 2) | (n == 4) | (n == 8)
 }
 
-impl Parts {
-    pub fn new(w: u64) -> Self
-        ensures { λ r. ⌜ r ≡ partsOf w ⌝ }
-    {
-        let number = w / 4294967296 % 4294967296;
-        Parts {
-            opcode: (w % 256) as usize,
-            one: (w / 256 % 256) as usize,
-            two: (w / 65536 % 256) as usize,
-            three: (w / 16777216 % 256) as usize,
-            target: (w / 65536 % 65536) as usize,
-            number: number as usize,
-            signed: extend(number),
-        }
-    }
-
-    // Whether bytes 1, 2 and 3 and the number in bytes 4 to 7 are below these.
-    pub fn fits(self, one: usize, two: usize, three: usize, number: usize) -> bool
-        ensures { λ r. ⌜ r ≡ below one two three number self ⌝ }
-    {
-        (self.one < one) & (self.two < two) & (self.three < three) & (self.number < number)
-    }
-
-    // The same for Alloc: an alignment has no bound of that kind.
-    pub fn fits_alloc(self) -> bool
-        ensures { λ r. ⌜ r ≡ passes register allocKind alignment anyNumber self ⌝ }
-    {
-        (self.one < REG) & (self.two < ALLOC_KIND) & is_alignment(self.three) & (self.number < NUM)
-    }
+// No mask says what an alignment is.
+pub fn fits_alloc(w: u64) -> bool
+    ensures { λ r. ⌜ r ≡ passes register allocKind alignment anyNumber (partsOf w) ⌝ }
+{
+    fits(w, ALLOC) & is_alignment(three(w))
 }

@@ -4,9 +4,4 @@ use Rattle.op.proofs.checker.inside.Statement.{statement}
 use Rattle.op.proofs.checker.inside.Tie as tie
 
 pub inside-spec : {M : Type 1} → statement M
-inside-spec =
-    tie.close
-    (tie.spec
-    (λ c. rw (c .before .if1 .taken, lt-ltb _ _ (c .if2 .taken)))
-    (λ c. rw (c .before .if1 .taken, le-ltb _ _ (c .if2 .left)))
-    (λ c. rw (c .if1 .left)))
+inside-spec = tie.close (tie.spec (λ c. rw (lt-ltb _ _ (c .if1 .taken))) (λ c. rw (le-ltb _ _ (c .if1 .left))))

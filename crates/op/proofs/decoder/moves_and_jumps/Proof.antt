@@ -1,27 +1,45 @@
 -- `moves_and_jumps` meets its contract: each arm is its row of the table. Assumes nothing.
-use Rattle.op.specs.Decode.{rows, decodedBy}
+use Rattle.op.specs.Decode.{rows, decodedBy, decodeOf}
 use Rattle.op.proofs.Arms.{last, nothing}
+use Rattle.op.proofs.Masks.{jump, jump-if, jump-immediate, jump-two, lookup, one-and-number, only-number, switch, two-registers}
 use Rattle.op.proofs.decoder.moves_and_jumps.Statement.{statement}
 use Rattle.op.proofs.decoder.moves_and_jumps.Tie as tie
 
 pub moves-and-jumps-spec : {M : Type 1} → statement M
-unfolding rows decodedBy
+unfolding rows decodedBy decodeOf
 moves-and-jumps-spec =
     tie.close
     (tie.spec
     nothing nothing nothing nothing nothing nothing nothing nothing nothing nothing nothing nothing nothing nothing
     nothing nothing nothing nothing nothing nothing nothing nothing nothing nothing nothing nothing nothing nothing
-    (λ c. rw (c .before .before .match .keys1, c .checked .ensures, c .before .fits2 .ensures))
-    (λ c. rw (c .before .before .match .keys2, c .checked2 .ensures, c .before .fits3 .ensures))
-    (λ c. rw (c .before .before .match .keys3, c .checked3 .ensures, c .before .fits4 .ensures))
-    (λ c. rw (c .before .before .match .keys4, c .checked4 .ensures, c .before .fits5 .ensures))
-    (λ c. rw (c .before .before .match .keys5, c .checked5 .ensures, c .before .fits6 .ensures))
-    (λ c. rw (c .before .before .match .keys6, c .checked6 .ensures, c .before .fits7 .ensures))
-    (λ c. rw (c .before .before .match .keys7, c .checked7 .ensures, c .before .fits8 .ensures))
-    (λ c. rw (c .before .before .match .keys8, c .checked8 .ensures, c .before .fits9 .ensures))
-    (λ c. rw (c .before .before .match .keys9, c .checked9 .ensures, c .before .fits10 .ensures))
-    (λ c. rw (c .before .before .match .keys10, c .checked10 .ensures, c .before .fits11 .ensures))
-    (λ c. rw (c .before .before .match .keys11, c .checked11 .ensures, c .before .fits12 .ensures))
-    (λ c. rw (c .before .before .match .keys12, c .checked12 .ensures, c .before .fits13 .ensures))
-    (λ c. rw (c .before .before .match .keys13, c .checked13 .ensures, c .before .fits14 .ensures))
-    (λ c. rw (last _ 26 13 (c .before .before .before .pre) (c .before .before .match .rest), c .checked14 .ensures, c .before .fits15 .ensures)))
+    nothing nothing nothing nothing nothing nothing nothing nothing nothing nothing nothing nothing nothing nothing
+    nothing nothing nothing nothing nothing nothing nothing nothing nothing nothing nothing nothing nothing nothing
+    nothing nothing nothing nothing
+    (λ c. let two = c .before in let one = two .before in let fits = one .before in
+    rw (fits .before .match .keys1, c .checked .ensures, fits .fits2 .ensures, two-registers, one .one .ensures, two .two .ensures))
+    (λ c. let signed = c .before in let one = signed .before in let fits = one .before in
+    rw (fits .before .match .keys2, c .checked2 .ensures, fits .fits3 .ensures, one-and-number, one .one2 .ensures, signed .signed .ensures))
+    (λ c. let number = c .before in let one = number .before in let fits = one .before in
+    rw (fits .before .match .keys3, c .checked3 .ensures, fits .fits4 .ensures, one-and-number, one .one3 .ensures, number .number .ensures))
+    (λ c. let target = c .before in let fits = target .before in
+    rw (fits .before .match .keys4, c .checked4 .ensures, fits .fits5 .ensures, jump, target .target .ensures))
+    (λ c. let target = c .before in let one = target .before in let fits = one .before in
+    rw (fits .before .match .keys5, c .checked5 .ensures, fits .fits6 .ensures, jump-if, one .one4 .ensures, target .target2 .ensures))
+    (λ c. let target = c .before in let one = target .before in let fits = one .before in
+    rw (fits .before .match .keys6, c .checked6 .ensures, fits .fits7 .ensures, jump-if, one .one5 .ensures, target .target3 .ensures))
+    (λ c. let target = c .before in let signed = target .before in let one = signed .before in let fits = one .before in
+    rw (fits .before .match .keys7, c .checked7 .ensures, fits .fits8 .ensures, jump-immediate, one .one6 .ensures, signed .signed2 .ensures, target .target4 .ensures))
+    (λ c. let target = c .before in let signed = target .before in let one = signed .before in let fits = one .before in
+    rw (fits .before .match .keys8, c .checked8 .ensures, fits .fits9 .ensures, jump-immediate, one .one7 .ensures, signed .signed3 .ensures, target .target5 .ensures))
+    (λ c. let target = c .before in let number = target .before in let one = number .before in let fits = one .before in
+    rw (fits .before .match .keys9, c .checked9 .ensures, fits .fits10 .ensures, jump-two, one .one8 .ensures, number .number2 .ensures, target .target6 .ensures))
+    (λ c. let target = c .before in let number = target .before in let one = number .before in let fits = one .before in
+    rw (fits .before .match .keys10, c .checked10 .ensures, fits .fits11 .ensures, jump-two, one .one9 .ensures, number .number3 .ensures, target .target7 .ensures))
+    (λ c. let number = c .before in let two = number .before in let one = two .before in let fits = one .before in
+    rw (fits .before .match .keys11, c .checked11 .ensures, fits .fits12 .ensures, switch, one .one10 .ensures, two .two2 .ensures, number .number4 .ensures))
+    (λ c. let number = c .before in let two = number .before in let one = two .before in let three = one .before in let fits = three .before in
+    rw (fits .before .match .keys12, c .checked12 .ensures, fits .fits13 .ensures, lookup, three .three .ensures, one .one11 .ensures, two .two3 .ensures, number .number5 .ensures))
+    (λ c. let number = c .before in let fits = number .before in
+    rw (fits .before .match .keys13, c .checked13 .ensures, fits .fits14 .ensures, only-number, number .number6 .ensures))
+    (λ c. let number = c .before in let fits = number .before in
+    rw (last _ 26 13 (fits .before .before .pre .0) (fits .before .before .pre .1) (fits .before .match .rest), c .checked14 .ensures, fits .fits15 .ensures, only-number, number .number7 .ensures)))

@@ -1,7 +1,0 @@
--- `Parts::fits_alloc` meets its contract. Assumes nothing.
-use Rattle.op.proofs.Arms.{nothing}
-use Rattle.op.proofs.word.Parts.fits_alloc.Statement.{statement}
-use Rattle.op.proofs.word.Parts.fits_alloc.Tie as tie
-
-pub fits-alloc-spec : {M : Type 1} → statement M
-fits-alloc-spec = tie.close (tie.spec nothing (λ c. rw (c .before .is-alignment .ensures)))
