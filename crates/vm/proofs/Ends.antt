@@ -18,12 +18,12 @@ use Rattle.op.specs.declared.Checked.{Checked}
 use Rattle.op.specs.declared.Counts.{Counts}
 use Rattle.op.specs.Reach.{checkOf}
 use Rattle.vm.specs.Core.{Core, Sizes, used, short, _⊑_, setFrames}
-use Rattle.vm.specs.Image.{Image, Test, test, imageOk, endsInHalt, below, wordTest, wordTests, counts, imageTests}
+use Rattle.vm.specs.Image.{Image, Test, test, imageOk, endsInHalt, below, wordTest, wordTests, counts, imageTests, failing}
 use Rattle.vm.specs.Run.{Step, next, halted, stop, step, Ran, after, go, root, entered}
 use Rattle.vm.specs.Names.{Given}
-use Rattle.vm.specs.Machine.{Lent, Machine, sizes, landOf, view, Call, run, light, host, Host, Answer, ended, value, done, refused, ran, idle, runs, runCall, act, hosted, granted, hostCall, framesOk, heapOk, slotsOk, returnsOk, framesBelong, pagesBelong, tests, failing, tried, perform, Started, declined, begun, starts, start}
-use Rattle.vm.proofs.Fits.{fits-of, none-of}
-use Rattle.vm.proofs.Refusals.{failing-numbered, image-alone, call-numbered}
+use Rattle.vm.specs.Machine.{Lent, Machine, sizes, landOf, view, Call, run, light, host, Host, Answer, ended, value, done, refused, ran, idle, runs, runCall, act, hosted, granted, hostCall, framesOk, heapOk, slotsOk, framesBelong, pagesBelong, tests, tried, perform, Started, declined, begun, starts, start}
+use Rattle.vm.proofs.Fits.{fits-of, none-of, take-fits}
+use Rattle.vm.proofs.Refusals.{failing-cons, failing-numbered, image-alone, call-numbered}
 use Rattle.vm.proofs.Upward.{go-next, go-halted, go-stop}
 use Rattle.vm.proofs.Kept.{GoodStep, step-good}
 use Rattle.vm.proofs.Runs.{runs-go, runs-past}
@@ -76,14 +76,6 @@ module _ (L : Sizes) (im : Image) (k : Checks im) where
 
 -- ---- what the tests of a run leave
 
-failing-cons : (t : Test) (ts : List Test) → failing (t ∷ ts) ≡ none → (t .passes ≡ true) × (failing ts ≡ none)
-unfolding failing
-failing-cons t ts h = by (t .passes) refl (unfold failing in h)
-  where
-    by : (b : Bool) → t .passes ≡ b → _≡_ {A = Option ℕ} (elim b [ true ↦ failing ts | false ↦ some (t .number) ]) none → (t .passes ≡ true) × (failing ts ≡ none)
-    by true p q = (p, q)
-    by false p q = (cc, cc)
-
 word-fine : (x : Checked) → wordTest x .passes ≡ true → x ≡ Checked.Fine
 unfolding wordTest
 word-fine Checked.Fine h = refl
@@ -110,11 +102,11 @@ ends-at (w ∷ ws) l h =
     ap (λ (j : ℕ). getD (w ∷ ws) j 0 % 256) i ∙ eqb-true _ _ h
 
 -- frames below the last word's place return into the code
-returns-of : (last : ℕ) (fs : List ℕ) → returnsOk last fs ≡ true → Returns (suc last) fs
-unfolding returnsOk
+returns-of : (last : ℕ) (fs : List ℕ) → below last fs ≡ true → Returns (suc last) fs
+unfolding below
 returns-of last [] h = tt
 returns-of last (f ∷ fs) h =
-    let k = both (ltb f last) (returnsOk last fs) h in
+    let k = both (ltb f last) (below last fs) h in
     let l = ltb-true f last (k .0) in
     let m = mod-le (f + 1) (2 ^ 64) in
     (omega arith, returns-of last fs (k .1))
@@ -124,14 +116,9 @@ unfolding root
 root-returns zero h = lit< tt
 root-returns (suc n) h = omega arith
 
-entered-returns : (last : ℕ) (fs : List ℕ) → last < 65536 → returnsOk last (drop 1 fs) ≡ true → Returns (suc last) (set fs 0 (root (suc last)))
+entered-returns : (last : ℕ) (fs : List ℕ) → last < 65536 → below last (drop 1 fs) ≡ true → Returns (suc last) (set fs 0 (root (suc last)))
 entered-returns last [] b h = tt
 entered-returns last (f ∷ fs) b h = (root-returns last b, returns-of last fs h)
-
-take-fits : (n : ℕ) (l : List ℕ) → length (take n l) ≤ length l
-take-fits zero l = omega arith
-take-fits (suc n) [] = omega arith
-take-fits (suc n) (x ∷ l) = let h = take-fits n l in omega arith
 
 -- ---- the whole call
 
@@ -150,13 +137,13 @@ module _ (im : Image) (b : ℕ) (m : Machine) (passed : failing (tests (run im b
   all-passed : Passed
   unfolding tests imageTests imageOk
   all-passed =
-      let size = failing-cons (test ((framesOk (m .lent) && heapOk (m .state .gc .base) (m .lent)) && imageOk im) 10) _ passed in
+      let size = failing-cons (test ((framesOk (length (m .lent .frames)) && heapOk (m .state .gc .base) (length (m .lent .heap))) && imageOk im) 10) _ passed in
       let halts = failing-cons (test _ 11) _ (size .1) in
       let targets = failing-cons (test _ 16) _ (halts .1) in
       let words = words-fine (counts im) (im .code) rest (targets .1) in
       let state = failing-cons (test _ 9) [] (words .1) in
       record {
-        size = leb-true _ _ (both (leb (length (im .code)) 65536) _ (both (framesOk (m .lent) && heapOk (m .state .gc .base) (m .lent)) (imageOk im) (size .0) .1) .0);
+        size = leb-true _ _ (both (leb (length (im .code)) 65536) _ (both (framesOk (length (m .lent .frames)) && heapOk (m .state .gc .base) (length (m .lent .heap))) (imageOk im) (size .0) .1) .0);
         halts = halts .0;
         targets = targets .0;
         words = words .0;
@@ -237,9 +224,9 @@ StartAnswer (begun m) = Unit {0}
 
 pub start-answers : (im : Image) (base : ℕ) (l : Lent) → StartAnswer (start im base l)
 unfolding start starts
-start-answers im base l = by (failing (imageTests (framesOk l && (heapOk base l && slotsOk l)) im)) refl
+start-answers im base l = by (failing (imageTests (framesOk (length (l .frames)) && (heapOk base (length (l .heap)) && slotsOk (length (l .slots)) (length (l .spare)))) im)) refl
   where
-    by : (o : Option ℕ) → failing (imageTests (framesOk l && (heapOk base l && slotsOk l)) im) ≡ o → StartAnswer (starts o base l)
+    by : (o : Option ℕ) → failing (imageTests (framesOk (length (l .frames)) && (heapOk base (length (l .heap)) && slotsOk (length (l .slots)) (length (l .spare)))) im) ≡ o → StartAnswer (starts o base l)
     by none f = tt
     by (some k) f = refusal-numbered k (failing-numbered _ k (image-alone _ im) f)
 

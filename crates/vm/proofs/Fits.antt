@@ -1,6 +1,8 @@
 -- What fits the smaller fits the larger. Assumes nothing.
 use mathlib.Core.Path.{_≡_, refl, sym}
-use Prim.Native.Nat.{ℕ, _≤_}
+use Prim.Native.Nat.{ℕ, zero, suc, _≤_}
+use mathlib.Core.List.{List, [], _∷_}
+use lib.ListN.{length, take}
 use mathlib.Core.Bool.{Bool, true, false}
 use mathlib.Core.Option.{Option, none, some}
 use native.Mathlib.Omega.{arith}
@@ -40,3 +42,9 @@ none-of n u h = rw (le-leb _ _ (h .frames), le-leb _ _ (h .slots), le-leb _ _ (h
 
 pub short-up : (n m u : Sizes) → n ⊑ m → short n u ≡ none → short m u ≡ none
 short-up n m u le h = none-of m u (let k = fits-of n u h in record { frames = omega arith; heap = omega arith; slots = omega arith })
+
+-- the part in use fits
+pub take-fits : (n : ℕ) (l : List ℕ) → length (take n l) ≤ length l
+take-fits zero l = omega arith
+take-fits (suc n) [] = omega arith
+take-fits (suc n) (x ∷ l) = let h = take-fits n l in omega arith

@@ -23,9 +23,9 @@ use Rattle.vm.proofs.Fits.{fits-of, none-of}
 -- the machine m, lent n, holds the core c: what is lent is legal, the numbers of the state are those of c, and c fits
 pub record Holds (n : Sizes) (c : Core) (m : Machine) : Type 0 where
   pub lent : sizes (m .lent) ≡ n
-  pub frames-ok : framesOk (m .lent) ≡ true
-  pub heap-ok : heapOk (c .land .pages .base) (m .lent) ≡ true
-  pub slots-ok : slotsOk (m .lent) ≡ true
+  pub frames-ok : framesOk (length (m .lent .frames)) ≡ true
+  pub heap-ok : heapOk (c .land .pages .base) (length (m .lent .heap)) ≡ true
+  pub slots-ok : slotsOk (length (m .lent .slots)) (length (m .lent .spare)) ≡ true
   pub core : view m ≡ c
   pub depth : m .state .depth ≡ length (c .frames)
   pub gc : m .state .gc ≡ numbersOf (c .land .pages)

@@ -6,6 +6,9 @@ pub mod Runs
 pub mod Holds
 pub mod Refusals
 pub mod Calls
+pub mod Buffers
 pub mod Start
 pub mod Inside
 pub mod Ends
+pub mod Images
+pub mod Replies

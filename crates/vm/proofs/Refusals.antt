@@ -21,8 +21,8 @@ use Rattle.op.specs.Reach.{checkOf}
 use Rattle.op.proofs.Sound.{check-refuses}
 use Rattle.vm.specs.declared.State.{State}
 use Rattle.vm.specs.Core.{Core, Land, Sizes, used, short}
-use Rattle.vm.specs.Image.{Image, Test, test, wordTest, wordTests, counts, imageOk, endsInHalt, below, imageTests}
-use Rattle.vm.specs.Machine.{Lent, Machine, sizes, landOf, view, Light, reset, putPc, putReg, Host, allocate, option, intern, internSmall, Call, run, light, host, framesOk, heapOk, slotsOk, returnsOk, framesBelong, pagesBelong, namesBelong, smallOk, tests, failing}
+use Rattle.vm.specs.Image.{Image, Test, test, wordTest, wordTests, counts, imageOk, endsInHalt, below, imageTests, failing}
+use Rattle.vm.specs.Machine.{Lent, Machine, sizes, landOf, view, Light, reset, putPc, putReg, Host, allocate, option, intern, internSmall, Call, run, light, host, framesOk, heapOk, slotsOk, framesBelong, pagesBelong, namesBelong, smallOk, tests}
 use Rattle.vm.specs.Core.{_⊑_, spent}
 use Rattle.vm.proofs.Fits.{fits-of}
 use Rattle.vm.proofs.Holds.{Holds}
@@ -39,7 +39,7 @@ tableOn l =
 
 pub framesOn : ℕ → Core → Bool
 framesOn zero c = true
-framesOn (suc last) c = returnsOk last (drop 1 (c .frames))
+framesOn (suc last) c = below last (drop 1 (c .frames))
 
 -- pages that are within the lent heap are sound as in a heap of their own
 sound-lent : (g : Gc) (lent : ℕ) → g .pushed ≤ lent → Heap.soundOf g lent ≡ Heap.soundOf g (g .pushed)
@@ -97,7 +97,7 @@ module _ (n : Sizes) (c : Core) (m : Machine) (h : Holds n c m) where
   unfolding namesBelong
   names-same = ap₂ _&&_ pages-same table-same
 
-  base-legal : heapOk (m .state .gc .base) (m .lent) ≡ true
+  base-legal : heapOk (m .state .gc .base) (length (m .lent .heap)) ≡ true
   unfolding numbersOf
   base-legal = rw (h .gc) (h .heap-ok)
 
@@ -123,6 +123,16 @@ tests-are n (host (allocate kind align z)) c m h = rw (base-legal n c m h, pages
 tests-are n (host (option o)) c m h = rw (base-legal n c m h, pages-same n c m h) refl
 tests-are n (host (intern s)) c m h = rw (base-legal n c m h, h .slots-ok, names-same n c m h) refl
 tests-are n (host (internSmall z w)) c m h = rw (base-legal n c m h, h .slots-ok, names-same n c m h) refl
+
+-- ---- tests that all pass
+
+pub failing-cons : (t : Test) (ts : List Test) → failing (t ∷ ts) ≡ none → (t .passes ≡ true) × (failing ts ≡ none)
+unfolding failing
+failing-cons t ts h = by (t .passes) refl (unfold failing in h)
+  where
+    by : (b : Bool) → t .passes ≡ b → _≡_ {A = Option ℕ} (elim b [ true ↦ failing ts | false ↦ some (t .number) ]) none → (t .passes ≡ true) × (failing ts ≡ none)
+    by true p q = (p, q)
+    by false p q = (cc, cc)
 
 -- ---- a test that fails refuses with a number from 9 to 17, and none of these is one of running out
 

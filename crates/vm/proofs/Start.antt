@@ -8,24 +8,18 @@ use lib.ListN.{length, take, replicate}
 use lib.Dec.{leb, eqb}
 use borrow.Author.Tests.{leb-true}
 use Rattle.memory.proofs.Over.{length-write}
+use Rattle.anomaly.proofs.Numbers.{both}
 use Rattle.gc.specs.Pages.{Pages, growOf, gapOf, holds, block, pushed, fitted, allocated}
 use Rattle.gc.specs.Lent.{pageSize, pagesOf, numbersOf}
 use Rattle.vm.specs.Core.{Core, Land, Sizes, used, short, lacking, setFrames, setLand, setPages, setBytes}
-use Rattle.vm.specs.Image.{Image, Test, test, imageOk, imageTests}
+use Rattle.vm.specs.Image.{Image, Test, test, imageOk, imageTests, failing}
 use Rattle.vm.specs.Names.{boxed, filled}
-use Rattle.vm.specs.Machine.{Lent, Machine, sizes, landOf, view, Call, run, light, host, Answer, withPages, withFrames, framesOk, heapOk, slotsOk, failing, perform, unset, firstPage, firstLand, blank, begin, starts, start, begun, declined}
+use Rattle.vm.specs.Machine.{Lent, Machine, sizes, landOf, view, Call, run, light, host, Answer, withPages, withFrames, framesOk, heapOk, slotsOk, perform, unset, firstPage, firstLand, blank, begin, starts, start, begun, declined}
 use Rattle.vm.proofs.Fits.{none-of}
 use Rattle.vm.proofs.Kept.{boxed-kept}
 use Rattle.vm.proofs.Holds.{Holds, holds-pages, holds-frames}
-
-both-true : (a b : Bool) → (a && b) ≡ true → (a ≡ true) × (b ≡ true)
-both-true true b h = (refl, h)
-both-true false b h = (cc, cc)
-
-failing-first : (b : Bool) (k : ℕ) (ts : List Test) → failing (test b k ∷ ts) ≡ none → b ≡ true
-unfolding failing
-failing-first true k ts h = refl
-failing-first false k ts h = cc
+use Rattle.vm.proofs.Refusals.{failing-cons}
+use Rattle.vm.proofs.Buffers.{frames-room, heap-room}
 
 starts-none : (o : Option ℕ) (base : ℕ) (l : Lent) (m : Machine) → starts o base l ≡ begun m → (o ≡ none) × (begin base l ≡ m)
 unfolding starts
@@ -37,7 +31,7 @@ starts-none (some e) base l m h = (cc, cc)
 empty : ℕ → Core
 empty base = record { regs = replicate 32 0; pc = 0; frames = []; land = record { pages = record { base = base; bytes = []; last = 0; len = 0 }; slots = []; names = 0 } }
 
-blank-holds : (base : ℕ) (l : Lent) → framesOk l ≡ true → heapOk base l ≡ true → slotsOk l ≡ true → Holds (sizes l) (empty base) (blank base l)
+blank-holds : (base : ℕ) (l : Lent) → framesOk (length (l .frames)) ≡ true → heapOk base (length (l .heap)) ≡ true → slotsOk (length (l .slots)) (length (l .spare)) ≡ true → Holds (sizes l) (empty base) (blank base l)
 unfolding empty blank view landOf pagesOf numbersOf used
 blank-holds base l f h s =
     record {
@@ -66,21 +60,13 @@ first-length base = rw (length-write, length-write) refl
 pub first : ℕ → Core
 first base = setFrames (unset ∷ []) (setLand (setPages (firstLand base .pages) (empty base .land)) (empty base))
 
-frames-room : (l : Lent) → framesOk l ≡ true → 1 ≤ sizes l .frames
-unfolding framesOk sizes
-frames-room l f = leb-true _ _ (both-true _ _ f .0)
-
-heap-room : (base : ℕ) (l : Lent) → heapOk base l ≡ true → pageSize ≤ sizes l .heap
-unfolding heapOk sizes
-heap-room base l h = leb-true _ _ (both-true _ _ (both-true _ _ h .0) .0)
-
-begin-holds : (base : ℕ) (l : Lent) → framesOk l ≡ true → heapOk base l ≡ true → slotsOk l ≡ true → Holds (sizes l) (first base) (begin base l)
-unfolding begin first
+begin-holds : (base : ℕ) (l : Lent) → framesOk (length (l .frames)) ≡ true → heapOk base (length (l .heap)) ≡ true → slotsOk (length (l .slots)) (length (l .spare)) ≡ true → Holds (sizes l) (first base) (begin base l)
+unfolding begin first sizes
 begin-holds base l f h s =
     let n = sizes l in
     let p = firstLand base .pages in
-    let pages = holds-pages n (empty base) (blank base l) (blank-holds base l f h s) p (unfold empty in first-base base) (rw first-length (heap-room base l h)) in
-    holds-frames n _ _ pages [] (unset ∷ []) (frames-room l f)
+    let pages = holds-pages n (empty base) (blank base l) (blank-holds base l f h s) p (unfold empty in first-base base) (rw first-length (heap-room base _ h)) in
+    holds-frames n _ _ pages [] (unset ∷ []) (frames-room _ f)
 
 -- a start that is not refused
 pub record Begun (base : ℕ) (l : Lent) (m : Machine) : Type 0 where
@@ -88,10 +74,10 @@ pub record Begun (base : ℕ) (l : Lent) (m : Machine) : Type 0 where
   pub holds : Holds (sizes l) (first base) m
 
 pub start-holds : (im : Image) (base : ℕ) (l : Lent) (m : Machine) → start im base l ≡ begun m → Begun base l m
-unfolding start imageTests
+unfolding start imageTests sizes
 start-holds im base l m e =
     let q = starts-none _ base l m e in
-    let lent = both-true (framesOk l && (heapOk base l && slotsOk l)) _ (failing-first _ 10 _ (q .0)) .0 in
-    let f = both-true _ _ lent in
-    let hs = both-true _ _ (f .1) in
-    record { room = frames-room l (f .0); holds = rw (q .1) at (begin-holds base l (f .0) (hs .0) (hs .1)) }
+    let lent = both (framesOk (length (l .frames)) && (heapOk base (length (l .heap)) && slotsOk (length (l .slots)) (length (l .spare)))) _ (failing-cons (test ((framesOk (length (l .frames)) && (heapOk base (length (l .heap)) && slotsOk (length (l .slots)) (length (l .spare)))) && imageOk im) 10) _ (q .0) .0) .0 in
+    let f = both _ _ lent in
+    let hs = both _ _ (f .1) in
+    record { room = frames-room _ (f .0); holds = rw (q .1) at (begin-holds base l (f .0) (hs .0) (hs .1)) }

@@ -1,6 +1,7 @@
 -- An image as it is lent: code, globals and tables, and what the loader and every run refuse of it. Definitions only.
 use Prim.Native.Nat.{ℕ, zero, suc, _-_, _%_}
 use mathlib.Core.Bool.{Bool, true, false, _&&_, _||_}
+use mathlib.Core.Option.{Option, none, some}
 use mathlib.Core.List.{List, [], _∷_, _++_, map}
 use lib.ListN.{length, getD}
 use lib.Dec.{leb, ltb, eqb}
@@ -22,6 +23,12 @@ pub record Image : Type 0 where
   pub switches : Tables
   pub lookups : Tables
   pub defaults : List ℕ
+
+abbrev pub tablesOf : List ℕ → List ℕ → List ℕ → Tables
+tablesOf firsts ends entries = record { firsts = firsts; ends = ends; entries = entries }
+
+abbrev pub imageOf : List ℕ → List ℕ → Tables → Tables → List ℕ → Image
+imageOf code globals switches lookups defaults = record { code = code; globals = globals; switches = switches; lookups = lookups; defaults = defaults }
 
 -- the entries of table k
 unfoldable pub startOf : List ℕ → ℕ → ℕ
@@ -60,7 +67,7 @@ unfoldable pub endsInHalt : List ℕ → Bool
 endsInHalt [] = true
 endsInHalt (w ∷ ws) = eqb (getD (w ∷ ws) (length ws) 0 % 256) 59
 
--- 16: 'table target past the code'
+-- all below n: 16, 'table target past the code', and what 9 asks of the frames in use
 unfoldable pub below : ℕ → List ℕ → Bool
 below n [] = true
 below n (x ∷ xs) = ltb x n && below n xs
@@ -78,3 +85,13 @@ wordTests n (w ∷ ws) = wordTest (checkOf n w) ∷ wordTests n ws
 unfoldable pub imageTests : Bool → Image → List Test
 imageTests lent im =
     test (lent && imageOk im) 10 ∷ test (endsInHalt (im .code)) 11 ∷ test (below (length (im .code)) (im .switches .entries)) 16 ∷ wordTests (counts im) (im .code)
+
+-- the number of the first test that fails
+unfoldable pub failing : List Test → Option ℕ
+failing [] = none
+failing (t ∷ ts) = elim (t .passes) [ true ↦ failing ts | false ↦ some (t .number) ]
+
+-- as the code answers it
+unfoldable pub verdict : Option ℕ → Checked
+verdict none = Checked.Fine
+verdict (some k) = Checked.Refused k

@@ -5,3 +5,4 @@ pub mod Effect
 pub mod Run
 pub mod Names
 pub mod Machine
+pub mod Told

@@ -18,7 +18,7 @@ use Rattle.gc.specs.Lent as Heap
 use Rattle.op.specs.Layout.{isAlignment}
 use Rattle.vm.specs.declared.State.{State}
 use Rattle.vm.specs.Core.{Core, Land, Sizes, used, short, spent, setReg, setPc, setFrames, setLand}
-use Rattle.vm.specs.Image.{Image, Test, test, imageTests}
+use Rattle.vm.specs.Image.{Image, Test, test, below, imageTests, failing}
 use Rattle.vm.specs.Run.{Ran, go, root, entered, stored}
 use Rattle.vm.specs.Names.{Given, allocates, boxed, optional, interned}
 
@@ -181,26 +181,24 @@ act (host k) m = hostCall k m (hosted k (landOf m))
 
 -- 10: 'frames 1–16,384; heap 1–256 whole pages; slots a power of two, 64–4,096, and a spare slice as long; B a multiple of 4,096 from
 -- 4,096, heap end at most 2^48'
-unfoldable pub framesOk : Lent → Bool
-framesOk l = leb 1 (length (l .frames)) && leb (length (l .frames)) 16384
+unfoldable pub framesOk : ℕ → Bool
+framesOk n = leb 1 n && leb n 16384
 
-unfoldable pub heapOk : ℕ → Lent → Bool
-heapOk base l =
-    (leb pageSize (length (l .heap)) && (leb (length (l .heap)) (256 * pageSize) && eqb (length (l .heap) % pageSize) 0))
-    && (leb pageSize base && (eqb (base % pageSize) 0 && leb (base + length (l .heap)) (2 ^ 48)))
+-- of a base and so many bytes
+unfoldable pub heapOk : ℕ → ℕ → Bool
+heapOk base n =
+    (leb pageSize n && (leb n (256 * pageSize) && eqb (n % pageSize) 0))
+    && (leb pageSize base && (eqb (base % pageSize) 0 && leb (base + n) (2 ^ 48)))
 
-unfoldable pub slotsOk : Lent → Bool
-slotsOk l = Table.slotCount (length (l .slots)) && eqb (length (l .spare)) (length (l .slots))
+-- of so many slots and spare slots
+unfoldable pub slotsOk : ℕ → ℕ → Bool
+slotsOk n spare = Table.slotCount n && eqb spare n
 
 -- 9: 'depth above the frames'; 'for a run of non-empty code, a frame in use other than frame 0 whose return isn't below the last word's
 -- place'
-unfoldable pub returnsOk : ℕ → List ℕ → Bool
-returnsOk last [] = true
-returnsOk last (f ∷ fs) = ltb f last && returnsOk last fs
-
 unfoldable pub framesBelong : ℕ → State → Lent → Bool
 framesBelong zero s l = leb (s .depth) (length (l .frames))
-framesBelong (suc last) s l = leb (s .depth) (length (l .frames)) && returnsOk last (drop 1 (take (s .depth) (l .frames)))
+framesBelong (suc last) s l = leb (s .depth) (length (l .frames)) && below last (drop 1 (take (s .depth) (l .frames)))
 
 -- 9: pages and last page; and of an interning the table. Definitions of the crates below
 unfoldable pub pagesBelong : State → Lent → Bool
@@ -215,19 +213,14 @@ smallOk n w = leb n 8 && ltb w (256 ^ n)
 
 unfoldable pub tests : Call → State → Lent → List Test
 tests (run im b) s l =
-    imageTests (framesOk l && heapOk (s .gc .base) l) im ++ (test (framesBelong (length (im .code)) s l && pagesBelong s l) 9 ∷ [])
-tests (light reset) s l = test (framesOk l) 10 ∷ []
+    imageTests (framesOk (length (l .frames)) && heapOk (s .gc .base) (length (l .heap))) im ++ (test (framesBelong (length (im .code)) s l && pagesBelong s l) 9 ∷ [])
+tests (light reset) s l = test (framesOk (length (l .frames))) 10 ∷ []
 tests (light (putPc p)) s l = []
 tests (light (putReg r v)) s l = test (ltb r 32) 13 ∷ []
-tests (host (allocate kind align n)) s l = test (heapOk (s .gc .base) l) 10 ∷ test (ltb kind 4 && isAlignment align) 13 ∷ test (pagesBelong s l) 9 ∷ []
-tests (host (option o)) s l = test (heapOk (s .gc .base) l) 10 ∷ test (pagesBelong s l) 9 ∷ []
-tests (host (intern n)) s l = test (heapOk (s .gc .base) l && slotsOk l) 10 ∷ test (namesBelong s l) 9 ∷ []
-tests (host (internSmall n w)) s l = test (heapOk (s .gc .base) l && slotsOk l) 10 ∷ test (namesBelong s l) 9 ∷ test (smallOk n w) 17 ∷ []
-
--- the number of the first test that fails
-unfoldable pub failing : List Test → Option ℕ
-failing [] = none
-failing (t ∷ ts) = elim (t .passes) [ true ↦ failing ts | false ↦ some (t .number) ]
+tests (host (allocate kind align n)) s l = test (heapOk (s .gc .base) (length (l .heap))) 10 ∷ test (ltb kind 4 && isAlignment align) 13 ∷ test (pagesBelong s l) 9 ∷ []
+tests (host (option o)) s l = test (heapOk (s .gc .base) (length (l .heap))) 10 ∷ test (pagesBelong s l) 9 ∷ []
+tests (host (intern n)) s l = test (heapOk (s .gc .base) (length (l .heap)) && slotsOk (length (l .slots)) (length (l .spare))) 10 ∷ test (namesBelong s l) 9 ∷ []
+tests (host (internSmall n w)) s l = test (heapOk (s .gc .base) (length (l .heap)) && slotsOk (length (l .slots)) (length (l .spare))) 10 ∷ test (namesBelong s l) 9 ∷ test (smallOk n w) 17 ∷ []
 
 -- a refused call leaves state and buffers unchanged
 unfoldable pub tried : Option ℕ → Call → Machine → Called
@@ -266,4 +259,4 @@ starts none base l = begun (begin base l)
 starts (some e) base l = declined e
 
 unfoldable pub start : Image → ℕ → Lent → Started
-start im base l = starts (failing (imageTests (framesOk l && (heapOk base l && slotsOk l)) im)) base l
+start im base l = starts (failing (imageTests (framesOk (length (l .frames)) && (heapOk base (length (l .heap)) && slotsOk (length (l .slots)) (length (l .spare)))) im)) base l

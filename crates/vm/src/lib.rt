@@ -1,5 +1,18 @@
 // The machine: what it keeps between calls, and what an instruction asks for.
+ghost use mathlib.Core.Path.{_≡_};
+ghost use mathlib.Core.List.{List};
+ghost use Prim.Native.Nat.{ℕ};
+ghost use Rattle.vm.specs.Machine.{Lent, reset, putPc, putReg, light, allocate, host, done, perform};
+ghost use Rattle.vm.specs.Told.{lentOf, machineOf, told, refusedBy, allocatedIn};
+
+pub mod image;
+pub mod lent;
+
+use anomaly::Refusal;
+use gc::Alloc;
+use gc::AllocType;
 use gc::Gc;
+use gc::Metadata;
 use string::table::StrTable;
 
 // What a machine keeps. Frames, heap and slots are lent to each call.
@@ -27,4 +40,107 @@ pub enum Effect {
     Alloc(usize, u64, u64),
     Stop(u64),
     Halt,
+}
+
+// What a host's call is answered with.
+pub enum Reply {
+    Value(u64),
+    Done,
+    Refused(Refusal),
+}
+
+// A reply, and the state after the call.
+pub struct Called {
+    pub reply: Reply,
+    pub state: State,
+}
+
+// The pc of a machine that has no code to run, and what frame 0 then holds.
+const UNSET: u64 = 18446744073709551615;
+
+impl State {
+    fn refused(self, why: Refusal) -> Called
+        ensures { λ r. ⌜ r ≡ refusedBy why self ⌝ }
+    {
+        Called {
+            reply: Reply::Refused(why),
+            state: self,
+        }
+    }
+
+    // The reply to an allocation.
+    fn allocated(self, block: Alloc) -> Called
+        ensures { λ r. ⌜ r ≡ allocatedIn self block ⌝ }
+    {
+        match block {
+            Alloc::At(address, gc) => {
+                let mut state = self;
+                state.gc = gc;
+                Called {
+                    reply: Reply::Value(address),
+                    state,
+                }
+            }
+            Alloc::Refused => self.refused(Refusal::Memory),
+        }
+    }
+
+    pub fn set_pc(self, pc: usize) -> State
+        ensures { λ r. ⌜ ((l : Lent) → record { answer = done; machine = machineOf r l } ≡ perform (light (putPc pc)) (machineOf self l)) ⌝ }
+    {
+        let mut state = self;
+        state.pc = pc;
+        state
+    }
+
+    pub fn set_register(self, register: usize, value: u64) -> Called
+        ensures { λ r. ⌜ ((l : Lent) → told r l ≡ perform (light (putReg register value)) (machineOf self l)) ⌝ }
+    {
+        if 32 <= register {
+            return self.refused(Refusal::Operand);
+        }
+        let mut state = self;
+        let mut regs = state.regs;
+        regs[register] = value;
+        state.regs = regs;
+        Called {
+            reply: Reply::Done,
+            state,
+        }
+    }
+
+    // Back to before the first run: registers, heap and names stay.
+    pub fn reset(self, frames: &mut [u64]) -> Called
+        ensures { λ r. ⌜ ((heap slots spare : List ℕ) → told r (lentOf (now (frames .exit)) heap slots spare) ≡ perform (light reset) (machineOf self (lentOf (now (frames .entry)) heap slots spare))) ⌝ }
+    {
+        if !lent::frames_ok(frames.len()) {
+            return self.refused(Refusal::Size);
+        }
+        frames[0] = UNSET;
+        let mut state = self;
+        state.pc = UNSET as usize;
+        state.depth = 1;
+        Called {
+            reply: Reply::Done,
+            state,
+        }
+    }
+
+    // A block of `size` bytes and a kind; its alignment is tested and changes nothing.
+    pub fn allocate(self, kind: u64, align: usize, size: u64, heap: &mut [u8]) -> Called
+        ensures { λ r. ⌜ ((frames slots spare : List ℕ) → told r (lentOf frames (now (heap .exit)) slots spare) ≡ perform (host (allocate kind align size)) (machineOf self (lentOf frames (now (heap .entry)) slots spare))) ⌝ }
+    {
+        let gc = self.gc;
+        if !lent::heap_ok(gc.base, heap.len()) {
+            return self.refused(Refusal::Size);
+        }
+        if !((kind < 4) & op::is_alignment(align)) {
+            return self.refused(Refusal::Operand);
+        }
+        if !gc.sound(heap.len()) {
+            return self.refused(Refusal::State);
+        }
+        let header = Metadata::new(AllocType::from_number(kind), false, size);
+        self.allocated(gc.alloc(header, heap))
+    }
 }
