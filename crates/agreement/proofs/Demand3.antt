@@ -15,7 +15,7 @@ use Rattle.vm.proofs.Runs.{runs-good, CutOn, runs-up}
 use Rattle.vm.proofs.Holds.{Holds}
 use Rattle.vm.proofs.Refusals.{testsOn, run-unspent}
 use Rattle.vm.proofs.Calls.{lighted, holds-run, holds-light, holds-host, perform-is, run-is, host-is}
-use Rattle.vm.proofs.Start.{first, start-holds}
+use Rattle.vm.proofs.Starting.{first, start-holds}
 use Rattle.agreement.specs.Demand3.{Pair, raised, CutAt, Cut, Same, Agree, Demand3, told, smaller, larger, NoneOut, Level, Demand3-told}
 
 raised-tests : (k : Call) (m : ℕ) (c : Core) → testsOn (raised k m) c ≡ testsOn k c

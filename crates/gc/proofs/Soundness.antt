@@ -11,7 +11,7 @@ use Rattle.gc.specs.declared.Gc.{Gc}
 use Rattle.gc.specs.Lent.{pageSize, soundOf, Sound}
 
 -- the last page's end, without a sum
-end-is : (page len pushed : ℕ) (b : Bool) → page < pushed → leb (page + len) pushed ≡ b → leb len (pushed - page) ≡ b
+pub end-is : (page len pushed : ℕ) (b : Bool) → page < pushed → leb (page + len) pushed ≡ b → leb len (pushed - page) ≡ b
 end-is page len pushed true h e = let k = leb-true (page + len) pushed e in le-leb len (pushed - page) (omega arith)
 end-is page len pushed false h e = let k = leb-false (page + len) pushed e in lt-leb len (pushed - page) (omega arith)
 

@@ -1,12 +1,14 @@
 -- What refusal 10 leaves of the buffers' sizes, and how it is computed without a sum that could pass 2^64. Assumes nothing.
-use mathlib.Core.Path.{_≡_, refl, sym}
+use mathlib.Core.Path.{_≡_, refl, ap}
 use Prim.Native.Nat.{ℕ, _+_, _-_, _*_, _%_, _^_, _≤_, _<_}
 use mathlib.Core.Bool.{Bool, true, false, _&&_}
 use native.Mathlib.Omega.{arith}
 use lib.Dec.{leb, eqb}
-use borrow.Author.Tests.{leb-true, leb-false, le-leb, lt-leb}
+use native.Mathlib.Nat.{add-comm}
+use borrow.Author.Tests.{leb-true, le-leb, lt-leb}
 use Rattle.anomaly.proofs.Numbers.{both}
 use Rattle.gc.specs.Lent.{pageSize}
+use Rattle.gc.proofs.Soundness.{end-is}
 use Rattle.vm.specs.Machine.{framesOk, heapOk}
 
 pub frames-room : (n : ℕ) → framesOk n ≡ true → 1 ≤ n
@@ -21,14 +23,10 @@ pub heap-long : (base n : ℕ) → 1048576 < n → false ≡ heapOk base n
 unfolding heapOk
 heap-long base n h = rw (le-leb 4096 n (omega arith), lt-leb n 1048576 h) refl
 
-difference : (a n t : ℕ) (b : Bool) → n ≤ t → leb (a + n) t ≡ b → leb a (t - n) ≡ b
-difference a n t true h e = let k = leb-true (a + n) t e in le-leb a (t - n) (omega arith)
-difference a n t false h e = let k = leb-false (a + n) t e in lt-leb a (t - n) (omega arith)
-
 pub heap-tested : (base n : ℕ) → n ≤ 1048576
     → ((leb 4096 n && eqb (n % 4096) 0) && (leb 4096 base && (eqb (base % 4096) 0 && leb base (281474976710656 - n)))) ≡ heapOk base n
 unfolding heapOk
-heap-tested base n h = rw (le-leb n 1048576 h, difference base n 281474976710656 _ (omega arith) refl) refl
+heap-tested base n h = rw (le-leb n 1048576 h, end-is n base 281474976710656 (leb (base + n) 281474976710656) (omega arith) (ap (λ (k : ℕ). leb k 281474976710656) (add-comm n base))) refl
 
 pub heap-low : (base n : ℕ) → heapOk base n ≡ true → base + n ≤ 2 ^ 48
 unfolding heapOk

@@ -189,7 +189,7 @@ module _ (im : Image) (b : ℕ) (m : Machine) (passed : failing (tests (run im b
 
 -- ---- the first demand, of the definition
 
-refusal-numbered : (k : ℕ) → (9 ≤ k) × (k ≤ 17) → isRefusal k ≡ true
+pub refusal-numbered : (k : ℕ) → (9 ≤ k) × (k ≤ 17) → isRefusal k ≡ true
 refusal-numbered k h = rw (ne-eqb k 2 (λ e. omega arith), le-leb 9 k (h .0), le-leb k 19 (omega arith)) refl
 
 -- a run that was tried ends, and is not refused

@@ -7,8 +7,10 @@ pub mod Holds
 pub mod Refusals
 pub mod Calls
 pub mod Buffers
-pub mod Start
+pub mod Starting
 pub mod Inside
 pub mod Ends
 pub mod Images
 pub mod Replies
+pub mod Boxes
+pub mod Loading

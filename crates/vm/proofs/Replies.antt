@@ -1,6 +1,6 @@
 -- What each call comes to, by its tests in turn. Assumes nothing.
 use mathlib.Core.Path.{_≡_, refl, sym, ap, _∙_}
-use Prim.Native.Nat.{ℕ, zero, suc, _≤_, _<_}
+use Prim.Native.Nat.{ℕ, _+_, _≤_, _<_}
 use mathlib.Core.Bool.{Bool, true, false, _&&_}
 use mathlib.Core.Option.{Option, none, some}
 use mathlib.Core.List.{List, [], _∷_, _++_}
@@ -9,18 +9,22 @@ use lib.ListN.{length, drop, set}
 use lib.Dec.{leb, ltb, eqb}
 use borrow.Author.Tests.{lt-ltb, le-ltb, le-leb}
 use Rattle.memory.specs.Lists.{over}
+use Rattle.memory.proofs.Over.{over-take}
 use Rattle.anomaly.proofs.Numbers.{both}
 use Rattle.gc.specs.Pages.{Pages, Block, allocated}
 use Rattle.gc.specs.Lent.{Outcome, pageSize, pagesOf}
 use Rattle.gc.specs.Lent as Heap
+use Rattle.gc.proofs.Blocks.{pushed-is}
+use Rattle.gc.proofs.Soundness as Soundness
 use Rattle.op.specs.Layout.{isAlignment}
 use Rattle.vm.specs.declared.State.{State}
 use Rattle.vm.specs.Image.{test, failing}
-use Rattle.vm.specs.Core.{used, lacking, short, setLand, setPages}
-use Rattle.vm.specs.Names.{Given, took, allocates}
-use Rattle.vm.specs.Machine.{Lent, Machine, sizes, landOf, view, Called, value, done, refused, light, reset, putPc, putReg, host, Host, allocate, unset, traced, withPages, withFrames, withRegs, lightly, hosted, hostLeaves, granted, hostCall, act, framesOk, heapOk, pagesBelong, tests, tried, perform}
-use Rattle.vm.specs.Told.{lentOf, machineOf, saidOf, told, allocatedIn}
+use Rattle.vm.specs.Core.{used, lacking, short, setLand, setPages, setBytes}
+use Rattle.vm.specs.Names.{Given, took, allocates, filled, boxed, optional}
+use Rattle.vm.specs.Machine.{Lent, Machine, sizes, landOf, view, Called, value, done, refused, light, reset, putPc, putReg, host, Host, allocate, option, unset, traced, withPages, withFrames, withRegs, lightly, hosted, hostLeaves, granted, hostCall, act, framesOk, heapOk, pagesBelong, tests, tried, perform}
+use Rattle.vm.specs.Told.{lentOf, machineOf, saidOf, told, allocatedIn, blockOf, landIn}
 use Rattle.vm.proofs.Fits.{take-fits}
+use Rattle.vm.proofs.Buffers.{heap-low}
 
 abbrev refuses : ℕ → State → Lent → Called
 refuses e s l = record { answer = refused e; machine = machineOf s l }
@@ -41,7 +45,7 @@ module _ (s : State) (l : Lent) (r v : ℕ) where
   unfolding perform tests failing tried act lightly withRegs
   register-put h = rw (lt-ltb r 32 h, failing, tried) refl
 
-over-first : (xs : List ℕ) (v : ℕ) → set xs 0 v ≡ over (v ∷ []) xs
+pub over-first : (xs : List ℕ) (v : ℕ) → set xs 0 v ≡ over (v ∷ []) xs
 unfolding over
 over-first [] v = refl
 over-first (x ∷ xs) v = refl
@@ -121,3 +125,47 @@ module _ (s : State) (frames heap slots spare : List ℕ) (kind align n : ℕ) w
   allocate-told h o b x e =
       pages-told s frames heap slots spare (allocated pageSize kind n (pagesOf (s .gc) heap) .pages) (allocate kind align n) refl (allocated pageSize kind n (pagesOf (s .gc) heap) .address) x e
       ∙ allocate-acts s frames heap slots spare kind align n h o b
+
+-- ---- options
+
+module _ (s : State) (frames heap slots spare : List ℕ) (o : Option ℕ) where
+  abbrev lent′ : Lent
+  lent′ = lentOf frames heap slots spare
+
+  pub option-10 : heapOk (s .gc .base) (length heap) ≡ false → refuses 10 s lent′ ≡ perform (host (option o)) (machineOf s lent′)
+  unfolding perform tests failing tried
+  option-10 e = rw (e, failing, tried) refl
+
+  module _ (heap-fine : heapOk (s .gc .base) (length heap) ≡ true) where
+    pub option-9 : Heap.soundOf (s .gc) (length heap) ≡ false → refuses 9 s lent′ ≡ perform (host (option o)) (machineOf s lent′)
+    unfolding perform tests failing tried pagesBelong
+    option-9 e = rw (heap-fine, e, failing, tried) refl
+
+    pub option-acts : Heap.soundOf (s .gc) (length heap) ≡ true
+        → hostCall (option o) (machineOf s lent′) (hosted (option o) (landOf (machineOf s lent′))) ≡ perform (host (option o)) (machineOf s lent′)
+    unfolding perform tests failing tried pagesBelong act
+    option-acts e = rw (heap-fine, e, failing, tried) refl
+
+module _ (s : State) (frames heap slots spare : List ℕ) (heap-fine : heapOk (s .gc .base) (length heap) ≡ true) (sound : Heap.soundOf (s .gc) (length heap) ≡ true) where
+  abbrev held : Machine
+  held = machineOf s (lentOf frames heap slots spare)
+
+  pub option-some : (v : ℕ) (x : Outcome) → x ≡ Heap.grantedIn (blockOf (boxed 1 v (landIn (s .gc) heap))) heap
+      → told (allocatedIn s (x .answer)) (lentOf frames (x .heap) slots spare) ≡ perform (host (option (some v))) held
+  unfolding hosted optional boxed filled hostLeaves landOf setPages setBytes
+  option-some v x e =
+      pages-told s frames heap slots spare (blockOf (boxed 1 v (landIn (s .gc) heap)) .pages) (option (some v)) refl (blockOf (boxed 1 v (landIn (s .gc) heap)) .address) x e
+      ∙ option-acts s frames heap slots spare (some v) heap-fine sound
+
+  -- pages laid over themselves
+  same-pages : withPages (pagesOf (s .gc) heap) held ≡ held
+  unfolding withPages pagesOf Heap.numbersOf
+  same-pages =
+      let b = Soundness.sound (s .gc) heap (heap-low _ _ heap-fine) sound in
+      rw (over-take, pushed-is (s .gc) heap b) refl
+
+  pub option-none : record { answer = value (s .gc .base + 16); machine = held } ≡ perform (host (option none)) held
+  unfolding hosted optional hostCall granted lacking hostLeaves landOf setPages pagesOf
+  option-none =
+      sym (rw (pages-short s frames heap slots spare (pagesOf (s .gc) heap), le-leb _ _ (take-fits (s .gc .pushed) heap), lacking, granted) (ap (λ (m : Machine). record { answer = value (s .gc .base + 16); machine = m }) same-pages))
+      ∙ option-acts s frames heap slots spare none heap-fine sound

@@ -1,14 +1,20 @@
 -- What the code answers, in the numbers and values of the definition. Definitions only.
 use Prim.Native.Nat.{ℕ}
-use mathlib.Core.List.{List}
+use mathlib.Core.Option.{Option, none, some}
+use mathlib.Core.List.{List, []}
 use Rattle.anomaly.specs.declared.Refusal.{Refusal}
 use Rattle.anomaly.specs.Table.{numberOfRefusal}
 use Rattle.gc.specs.declared.Alloc.{Alloc}
 use Rattle.gc.specs.declared.Gc.{Gc}
+use Rattle.gc.specs.Pages.{Block}
+use Rattle.gc.specs.Lent.{pagesOf}
 use Rattle.vm.specs.declared.State.{State}
 use Rattle.vm.specs.declared.Reply.{Reply}
 use Rattle.vm.specs.declared.Called.{Called}
-use Rattle.vm.specs.Machine.{Lent, Machine, Answer, value, done, refused}
+use Rattle.vm.specs.declared.Opt.{Opt}
+use Rattle.vm.specs.Core.{Land}
+use Rattle.vm.specs.Names.{Given}
+use Rattle.vm.specs.Machine.{Lent, Machine, Answer, value, done, refused, Started, declined, begun, blank}
 use Rattle.vm.specs.Machine as Machine
 
 abbrev pub lentOf : List ℕ → List ℕ → List ℕ → List ℕ → Lent
@@ -36,3 +42,20 @@ allocatedIn s Alloc.Refused = refusedBy Refusal.Memory s
 -- a reply with the state, and the buffers after the call
 abbrev pub told : Called → Lent → Machine.Called
 told r l = record { answer = saidOf (r .reply); machine = machineOf (r .state) l }
+
+-- what was given, as a block of the pages that hold it
+abbrev pub blockOf : Given → Block
+blockOf g = record { address = g .value; pages = g .land .pages }
+
+-- the pages of a lent heap, as all that is looked at
+abbrev pub landIn : Gc → List ℕ → Land
+landIn g heap = record { pages = pagesOf g heap; slots = []; names = 0 }
+
+abbrev pub optionOf : Opt → Option ℕ
+optionOf Opt.None = none
+optionOf (Opt.Some v) = some v
+
+-- a start as a call: a declined one leaves the buffers as they were, and answers a state that has nothing in use
+unfoldable pub startedOn : Started → ℕ → Lent → Machine.Called
+startedOn (declined e) base l = record { answer = refused e; machine = blank base l }
+startedOn (begun m) base l = record { answer = done; machine = m }

@@ -2,11 +2,14 @@
 ghost use mathlib.Core.Path.{_≡_};
 ghost use mathlib.Core.List.{List};
 ghost use Prim.Native.Nat.{ℕ};
-ghost use Rattle.vm.specs.Machine.{Lent, reset, putPc, putReg, light, allocate, host, done, perform};
-ghost use Rattle.vm.specs.Told.{lentOf, machineOf, told, refusedBy, allocatedIn};
+ghost use Rattle.vm.specs.Machine.{Lent, reset, putPc, putReg, light, allocate, option, host, done, perform};
+ghost use Rattle.gc.specs.Lent.{Sound, outcome, grantedIn};
+ghost use Rattle.vm.specs.Names.{boxed};
+ghost use Rattle.vm.specs.Told.{lentOf, machineOf, told, refusedBy, allocatedIn, blockOf, landIn, optionOf};
 
 pub mod image;
 pub mod lent;
+pub mod start;
 
 use anomaly::Refusal;
 use gc::Alloc;
@@ -49,6 +52,12 @@ pub enum Reply {
     Refused(Refusal),
 }
 
+// What an option is made of.
+pub enum Opt {
+    None,
+    Some(u64),
+}
+
 // A reply, and the state after the call.
 pub struct Called {
     pub reply: Reply,
@@ -57,6 +66,22 @@ pub struct Called {
 
 // The pc of a machine that has no code to run, and what frame 0 then holds.
 const UNSET: u64 = 18446744073709551615;
+
+// An Option of two words, a tag and a value.
+pub fn boxed(gc: Gc, tag: u64, value: u64, heap: &mut [u8]) -> Alloc
+    requires { ⌜ Sound gc (now heap) ⌝ }
+    ensures { λ r. ⌜ outcome r (now (heap .exit)) ≡ grantedIn (blockOf (boxed tag value (landIn gc (now (heap .entry))))) (now (heap .entry)) ⌝ }
+{
+    let base = gc.base;
+    let block = gc.alloc(Metadata::new(AllocType::Option, false, 16), heap);
+    let Alloc::At(address, _) = block else {
+        return Alloc::Refused;
+    };
+    let at = (address - base) as usize;
+    memory::store8(heap, at, tag);
+    memory::store8(heap, at + 8, value);
+    block
+}
 
 impl State {
     fn refused(self, why: Refusal) -> Called
@@ -142,5 +167,25 @@ impl State {
         }
         let header = Metadata::new(AllocType::from_number(kind), false, size);
         self.allocated(gc.alloc(header, heap))
+    }
+
+    pub fn new_option(self, value: Opt, heap: &mut [u8]) -> Called
+        ensures { λ r. ⌜ ((frames slots spare : List ℕ) → told r (lentOf frames (now (heap .exit)) slots spare) ≡ perform (host (option (optionOf value))) (machineOf self (lentOf frames (now (heap .entry)) slots spare))) ⌝ }
+    {
+        let gc = self.gc;
+        if !lent::heap_ok(gc.base, heap.len()) {
+            return self.refused(Refusal::Size);
+        }
+        if !gc.sound(heap.len()) {
+            return self.refused(Refusal::State);
+        }
+        match value {
+            // the box that the start made
+            Opt::None => Called {
+                reply: Reply::Value(gc.base + 16),
+                state: self,
+            },
+            Opt::Some(v) => self.allocated(boxed(gc, 1, v, heap)),
+        }
     }
 }

@@ -52,7 +52,7 @@ first-base : (base : ℕ) → firstLand base .pages .base ≡ base
 unfolding firstLand firstPage
 first-base base = boxed-kept 0 0 (firstPage base) .base
 
-first-length : (base : ℕ) → length (firstLand base .pages .bytes) ≡ pageSize
+pub first-length : (base : ℕ) → length (firstLand base .pages .bytes) ≡ pageSize
 unfolding firstLand firstPage boxed filled setPages setBytes allocated fitted holds block gapOf
 first-length base = rw (length-write, length-write) refl
 
