@@ -1,7 +1,9 @@
 -- What refusal 10 leaves of the buffers' sizes, and how it is computed without a sum that could pass 2^64. Assumes nothing.
-use mathlib.Core.Path.{_≡_, refl, ap}
-use Prim.Native.Nat.{ℕ, _+_, _-_, _*_, _%_, _^_, _≤_, _<_}
+use mathlib.Core.Path.{_≡_, refl, sym, ap}
+use Prim.Native.Nat.{ℕ, zero, suc, _+_, _-_, _*_, _%_, _^_, _≤_, _<_}
 use mathlib.Core.Bool.{Bool, true, false, _&&_}
+use mathlib.Core.List.{List, [], _∷_}
+use lib.ListN.{length, take, drop}
 use native.Mathlib.Omega.{arith}
 use lib.Dec.{leb, eqb}
 use native.Mathlib.Nat.{add-comm}
@@ -9,7 +11,9 @@ use borrow.Author.Tests.{leb-true, le-leb, lt-leb}
 use Rattle.anomaly.proofs.Numbers.{both}
 use Rattle.gc.specs.Lent.{pageSize}
 use Rattle.gc.proofs.Soundness.{end-is}
-use Rattle.vm.specs.Machine.{framesOk, heapOk}
+use Rattle.vm.specs.declared.State.{State}
+use Rattle.vm.specs.Image.{below}
+use Rattle.vm.specs.Machine.{Lent, framesOk, heapOk, framesBelong}
 
 pub frames-room : (n : ℕ) → framesOk n ≡ true → 1 ≤ n
 unfolding framesOk
@@ -34,3 +38,35 @@ heap-low base n h =
     let address = both (leb pageSize n && (leb n (256 * pageSize) && eqb (n % pageSize) 0)) (leb pageSize base && (eqb (base % pageSize) 0 && leb (base + n) (2 ^ 48))) h .1 in
     let place = both (leb pageSize base) (eqb (base % pageSize) 0 && leb (base + n) (2 ^ 48)) address .1 in
     leb-true (base + n) (2 ^ 48) (both (eqb (base % pageSize) 0) (leb (base + n) (2 ^ 48)) place .1)
+
+-- ---- frames that can belong to a state
+
+tail-part : (d : ℕ) (xs : List ℕ) → take d (drop 1 xs) ≡ drop 1 (take (suc d) xs)
+tail-part zero [] = refl
+tail-part (suc d) [] = refl
+tail-part d (x ∷ xs) = refl
+
+module _ (s : State) (l : Lent) where
+  pub belong-deep : (words : ℕ) → length (l .frames) < s .depth → false ≡ framesBelong words s l
+  unfolding framesBelong
+  belong-deep zero h = sym (lt-leb (s .depth) (length (l .frames)) h)
+  belong-deep (suc last) h = rw (lt-leb (s .depth) (length (l .frames)) h) refl
+
+  module _ (fit : s .depth ≤ length (l .frames)) where
+    pub belong-empty : true ≡ framesBelong 0 s l
+    unfolding framesBelong
+    belong-empty = sym (le-leb (s .depth) (length (l .frames)) fit)
+
+    pub belong-idle : (words : ℕ) → s .depth ≡ 0 → true ≡ framesBelong words s l
+    unfolding framesBelong below
+    belong-idle zero e = belong-empty
+    belong-idle (suc last) e = rw (le-leb (s .depth) (length (l .frames)) fit, e) refl
+
+    pub belong-below : (words depth : ℕ) → (words ≡ 0 → ⊥) → (depth ≡ 0 → ⊥) → s .depth ≡ depth → below (words - 1) (take (depth - 1) (drop 1 (l .frames))) ≡ framesBelong words s l
+    unfolding framesBelong
+    belong-below zero depth w d e = absurd (w refl)
+    belong-below (suc last) zero w d e = absurd (d refl)
+    belong-below (suc last) (suc k) w d e =
+        let a : suc last - 1 ≡ last = omega arith in
+        let b : suc k - 1 ≡ k = omega arith in
+        rw (a, b, le-leb (s .depth) (length (l .frames)) fit, e, tail-part k (l .frames)) refl

@@ -1,7 +1,9 @@
-// Refusal 10 of the buffers that a call is lent: their sizes and the heap's base.
+// What is refused of the buffers that a call is lent: 10 for their sizes and the heap's base, 9 for frames that cannot belong to a state.
 ghost use mathlib.Core.Path.{_≡_};
-ghost use Rattle.vm.specs.Machine.{framesOk, heapOk, slotsOk};
+ghost use Rattle.vm.specs.Machine.{Lent, framesOk, heapOk, slotsOk, framesBelong};
+ghost use Rattle.vm.specs.declared.State.{State};
 ghost use Rattle.string.specs.Sound.{slotCount};
+use crate::image;
 use gc::PAGE_SIZE;
 
 pub fn frames_ok(frames: usize) -> bool
@@ -27,4 +29,20 @@ pub fn slots_ok(slots: usize, spare: usize) -> bool
     ensures { λ r. ⌜ r ≡ slotsOk slots spare ⌝ }
 {
     string::table::slot_count(slots) & (spare == slots)
+}
+
+// Of 9: the depth is within the frames lent, and for code of so many words each frame in use but frame 0 returns below the last.
+pub fn frames_belong(words: usize, depth: usize, frames: &[u64]) -> bool
+    ensures { λ r. ⌜ ((s : State) (l : Lent) → s .depth ≡ depth → l .frames ≡ now (frames .entry) → r ≡ framesBelong words s l) ⌝ }
+{
+    if frames.len() < depth {
+        return false;
+    }
+    if words == 0 {
+        return true;
+    }
+    if depth == 0 {
+        return true;
+    }
+    image::below(words - 1, &frames[1..depth])
 }
