@@ -11,4 +11,5 @@ pub mod Start
 pub mod Inside
 pub mod Ends
 pub mod Images
+pub mod Asks
 pub mod Replies

@@ -5,6 +5,7 @@ ghost use Prim.Native.Nat.{ℕ};
 ghost use Rattle.vm.specs.Machine.{Lent, reset, putPc, putReg, light, allocate, host, done, perform};
 ghost use Rattle.vm.specs.Told.{lentOf, machineOf, told, refusedBy, allocatedIn};
 
+pub mod effects;
 pub mod image;
 pub mod lent;
 
