@@ -1,11 +1,11 @@
--- What an instruction asks for, case by case: jumps, divisions, and the entries of tables. Assumes nothing.
+-- What an instruction asks for: differences, the entries of tables, and reads inside and outside. Assumes nothing.
 use mathlib.Core.Path.{_≡_, refl, sym, ap, _∙_}
 use Prim.Native.Nat.{ℕ, zero, suc, _+_, _-_, _/_, _%_, _^_, _≤_, _<_}
-use mathlib.Core.Bool.{Bool, true, false, cond, _&&_}
+use mathlib.Core.Bool.{Bool, true, false, cond}
 use mathlib.Core.List.{List, [], _∷_}
 use native.Mathlib.Omega.{arith}
 use native.Mathlib.Nat.{not-suc-le-zero, le-of-suc-le-suc}
-use lib.ListN.{length, getD, take, drop, length-take, length-drop, List·getD-eq-default}
+use lib.ListN.{length, getD, length-take, length-drop, List·getD-eq-default}
 use lib.Seq.{getD-take, getD-drop}
 use lib.Dec.{leb, ltb, eqb}
 use borrow.Author.Tests.{leb-true, eqb-true, ltb-true, ltb-false, lt-ltb, le-ltb, eq-eqb, ne-eqb}
@@ -15,9 +15,9 @@ use Rattle.vm.specs.declared.Effect.the-variants as effect
 use Rattle.vm.specs.declared.effects.Entry.{Entry}
 use Rattle.vm.specs.declared.effects.Entry.the-variants.{At, Missing}
 use Rattle.vm.specs.Image.{Tables, rising, tablesOk, startOf, entriesOf}
-use Rattle.vm.specs.Effect.{unlisted, low, minus, within, slot, switched}
+use Rattle.vm.specs.Effect.{minus, within, slot, switched}
 
--- sums and differences modulo 2 ^ 64, as std::num has them
+-- a difference modulo 2 ^ 64, by what std::num says of it
 pub difference : (x y r : ℕ) → x < 2 ^ 64 → y < 2 ^ 64 → r < 2 ^ 64 → (r + y) % 2 ^ 64 ≡ x → r ≡ minus x y
 difference x y r a b c e = omega arith
 
@@ -78,18 +78,16 @@ module _ (t : Tables) (k : ℕ) (ok : tablesOk t ≡ true) (l : k < length (t .f
       let b = both (eqb (length (t .ends)) (length (t .firsts))) _ a in
       (b .0, both (leb (length (t .entries)) 4096) _ (b .1) .1)
 
-  pub has-end : k < length (t .ends)
-  has-end = let e = eqb-true (length (t .ends)) (length (t .firsts)) (parts .0) in omega arith
-
-  pub in-order : startOf (t .ends) k ≤ getD (t .ends) k 0
-  in-order = start-order (t .ends) (length (t .entries)) k (parts .1) has-end
-
-  pub in-entries : getD (t .ends) k 0 ≤ length (t .entries)
-  in-entries = rising-at 0 (t .ends) (length (t .entries)) k (parts .1) has-end
+  -- its end is there, not below its start, and no end is past the entries
+  pub bounds : (k < length (t .ends)) × (startOf (t .ends) k ≤ getD (t .ends) k 0) × (getD (t .ends) k 0 ≤ length (t .entries))
+  bounds =
+      let e = eqb-true (length (t .ends)) (length (t .firsts)) (parts .0) in
+      let there : k < length (t .ends) = omega arith in
+      (there, start-order (t .ends) (length (t .entries)) k (parts .1) there, rising-at 0 (t .ends) (length (t .entries)) k (parts .1) there)
 
   entries-length : length (entriesOf t k) ≡ getD (t .ends) k 0 - startOf (t .ends) k
   unfolding entriesOf
-  entries-length = let a = in-order in let b = in-entries in simp (length-take, length-drop) (omega arith)
+  entries-length = let b = bounds in simp (length-take, length-drop) (omega arith)
 
   -- from the start of its entries and a slot, as they are computed
   module _ (from s at : ℕ) (f : from ≡ startOf (t .ends) k) (e : s ≡ at) where

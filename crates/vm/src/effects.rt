@@ -1,9 +1,9 @@
-// What an instruction asks for: the meaning of every `Op`. `effect_of` is for the loop of a run alone, and `switch` and `lookup` have it as
-// their one caller: the compiler then puts them all into the loop.
+// What an instruction asks for: the meaning of every `Op`. `effect_of` is for the loop of a run alone, and `switch` and `lookup` are for
+// `effect_of` alone: the compiler then puts them all into the loop.
 ghost use mathlib.Core.Path.{_≡_};
 ghost use mathlib.Core.Bool.{true, cond};
 ghost use mathlib.Core.List.{List};
-ghost use Prim.Native.Nat.{ℕ, _+_, _-_, _<_, _≤_};
+ghost use Prim.Native.Nat.{ℕ, _<_};
 ghost use lib.ListN.{length, getD};
 ghost use lib.Dec.{ltb};
 ghost use Rattle.op.specs.Operands.{okOp};
@@ -53,7 +53,7 @@ fn jump_if(b: bool, target: usize) -> Effect
     }
 }
 
-// Assert
+// Assert: a false one stops with 4.
 fn unless_false(b: bool) -> Effect
     ensures { λ r. ⌜ r ≡ cond b Effect.Skip (Effect.Stop 4) ⌝ }
 {
@@ -64,7 +64,7 @@ fn unless_false(b: bool) -> Effect
     }
 }
 
-// LoadG
+// LoadG.
 fn global(dst: usize, idx: usize, globals: &[u64]) -> Effect
     ensures { λ r. ⌜ r ≡ within idx (length (now (globals .entry))) (Effect.Set dst (getD (now (globals .entry)) idx 0)) ⌝ }
 {

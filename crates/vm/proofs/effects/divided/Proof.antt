@@ -1,5 +1,4 @@
 -- `vm::effects::divided` meets its contract. Assumes nothing.
-use mathlib.Core.Path.{refl}
 use Rattle.vm.specs.Effect.{divided}
 use borrow.Author.Needs.{needs}
 use Rattle.vm.proofs.effects.divided.Statement.{statement}

@@ -1,6 +1,6 @@
 -- `vm::effects::find` meets its contract. Assumes nothing.
 use native.Mathlib.Omega.{arith}
-use Rattle.vm.proofs.Asks.{has-end, in-order, in-entries, entry-found, entry-missing}
+use Rattle.vm.proofs.Asks.{bounds, entry-found, entry-missing}
 use borrow.Author.Needs.{needs}
 use Rattle.vm.proofs.effects.find.Statement.{statement}
 use Rattle.vm.proofs.effects.find.Tie as tie
@@ -8,36 +8,36 @@ use Rattle.vm.proofs.effects.find.Tie as tie
 starts-at-requires : tie.Need-starts-at-requires
 starts-at-requires c κs =
     let start = c .before .before .before in
-    has-end _ _ (start .pre .0) (start .pre .1)
+    bounds _ _ (start .pre .0) (start .pre .1) .0
 
 shared-slice-read-if1 : tie.Need-shared-slice-read-if1
 shared-slice-read-if1 c =
     let start = c .before .before .before .before .before .before .before in
-    has-end _ _ (start .pre .0) (start .pre .1)
+    bounds _ _ (start .pre .0) (start .pre .1) .0
 
 sub-if1 : tie.Need-sub-if1
 sub-if1 c =
     let starts-at = c .before .before .before in
     let start = starts-at .before .before .before .before in
-    let pre = (start .pre) in let a = has-end _ _ (pre .0) (pre .1) in let b = in-order _ _ (pre .0) (pre .1) in let d = in-entries _ _ (pre .0) (pre .1) in let f = starts-at .starts-at .ensures in omega arith
+    let b = bounds _ _ (start .pre .0) (start .pre .1) in let f = starts-at .starts-at .ensures in omega arith
 
 add-t16 : tie.Need-add-t16
 add-t16 c =
     let starts-at = c .before .before .before .before in
     let start = starts-at .before .before .before .before in
-    let pre = (start .pre) in let a = has-end _ _ (pre .0) (pre .1) in let b = in-order _ _ (pre .0) (pre .1) in let d = in-entries _ _ (pre .0) (pre .1) in let f = starts-at .starts-at .ensures in omega arith
+    let b = bounds _ _ (start .pre .0) (start .pre .1) in let f = starts-at .starts-at .ensures in omega arith
 
 mul-t18 : tie.Need-mul-t18
 mul-t18 c =
     let starts-at = c .before .before .before .before in
     let start = starts-at .before .before .before .before in
-    let pre = (start .pre) in let a = has-end _ _ (pre .0) (pre .1) in let b = in-order _ _ (pre .0) (pre .1) in let d = in-entries _ _ (pre .0) (pre .1) in let f = starts-at .starts-at .ensures in omega arith
+    let b = bounds _ _ (start .pre .0) (start .pre .1) in let f = starts-at .starts-at .ensures in omega arith
 
 shared-slice-read-t20 : tie.Need-shared-slice-read-t20
 shared-slice-read-t20 c =
     let starts-at = c .before .before .before .before .before in
     let start = starts-at .before .before .before .before in
-    let pre = (start .pre) in let a = has-end _ _ (pre .0) (pre .1) in let b = in-order _ _ (pre .0) (pre .1) in let d = in-entries _ _ (pre .0) (pre .1) in let f = starts-at .starts-at .ensures in omega arith
+    let b = bounds _ _ (start .pre .0) (start .pre .1) in let f = starts-at .starts-at .ensures in omega arith
 
 returns : tie.Need-returns
 returns c =

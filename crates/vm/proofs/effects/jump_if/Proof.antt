@@ -1,5 +1,4 @@
 -- `vm::effects::jump_if` meets its contract. Assumes nothing.
-use mathlib.Core.Path.{refl}
 use Rattle.vm.specs.Effect.{jumpIf}
 use Rattle.vm.proofs.effects.jump_if.Statement.{statement}
 use Rattle.vm.proofs.effects.jump_if.Tie as tie
