@@ -11,6 +11,7 @@ pub mod Starting
 pub mod Inside
 pub mod Ends
 pub mod Images
+pub mod Asks
 pub mod Replies
 pub mod Boxes
 pub mod Loading

@@ -7,6 +7,7 @@ ghost use Rattle.gc.specs.Lent.{Sound, outcome, grantedIn};
 ghost use Rattle.vm.specs.Names.{boxed};
 ghost use Rattle.vm.specs.Told.{lentOf, machineOf, told, refusedBy, allocatedIn, blockOf, landIn, optionOf};
 
+pub mod effects;
 pub mod image;
 pub mod lent;
 pub mod start;
