@@ -12,3 +12,4 @@ pub mod Inside
 pub mod Ends
 pub mod Images
 pub mod Replies
+pub mod Interning

@@ -7,6 +7,7 @@ ghost use Rattle.vm.specs.Told.{lentOf, machineOf, told, refusedBy, allo
 
 pub mod image;
 pub mod lent;
+pub mod names;
 
 use anomaly::Refusal;
 use gc::Alloc;
