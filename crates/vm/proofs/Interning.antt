@@ -1,17 +1,17 @@
 -- Interning: what its tests leave, a name's block, its slot, and what the call comes to. Assumes nothing.
 use mathlib.Core.Path.{_≡_, refl, sym, ap, ap₂, _∙_}
-use Prim.Native.Nat.{ℕ, zero, suc, _+_, _-_, _*_, _/_, _%_, _^_, _≤_, _<_}
-use mathlib.Core.Bool.{Bool, true, false, _&&_, _||_}
+use Prim.Native.Nat.{ℕ, zero, suc, _+_, _-_, _*_, _/_, _^_, _≤_, _<_}
+use mathlib.Core.Bool.{Bool, true, false, not, _&&_, _||_}
 use mathlib.Core.Option.{Option, none, some}
-use mathlib.Core.List.{List, [], _∷_, _++_, append-nil}
+use mathlib.Core.List.{List, _++_, append-nil}
 use native.Mathlib.Omega.{arith}
 use native.Mathlib.Numerals.{add-one}
 use native.Mathlib.Nat.{div-add-mod', mod-lt, div-eq-of-lt}
-use lib.ListN.{length, take, drop, replicate, length-append, length-replicate, length-drop, drop-of-length-le}
+use lib.ListN.{length, take, drop, length-append, length-replicate, length-drop, drop-of-length-le}
 use lib.Seq.{length-take-le}
 use lib.Dec.{leb, ltb, eqb}
 use lib.Pow.{pow-add, pow-pos}
-use borrow.Author.Tests.{leb-true, leb-false, le-leb, lt-leb, ltb-true, ltb-false, lt-ltb, le-ltb, eqb-true, eqb-false, eq-eqb, ne-eqb}
+use borrow.Author.Tests.{leb-true, le-leb, lt-leb, ltb-true, ltb-false, lt-ltb, le-ltb, eqb-true, eqb-false, eq-eqb, ne-eqb, not-true, not-false}
 use Rattle.memory.specs.Bytes.{bytesOf}
 use Rattle.memory.specs.Lists.{over, write}
 use Rattle.memory.proofs.Over.{over-is, over-take, over-write, take-over, tail-home, length-over, length-write}
@@ -19,7 +19,6 @@ use Rattle.memory.proofs.Bytes.{length-bytesOf}
 use Rattle.anomaly.proofs.Numbers.{both}
 use Rattle.string.specs.declared.table.StrTable.{StrTable}
 use Rattle.string.specs.declared.table.Probe.{Probe}
-use Rattle.string.specs.declared.table.Probe.the-variants.{Found, Vacant, Full}
 use Rattle.string.specs.Hash.{hashOf, smallHashOf}
 use Rattle.string.specs.Payload.{payloadOf, payloadSize, holds, smallName}
 use Rattle.string.specs.Table.{lookup, placed}
@@ -32,17 +31,17 @@ use Rattle.string.proofs.Small.{small-hash-is}
 use Rattle.gc.specs.declared.Gc.{Gc}
 use Rattle.gc.specs.declared.Alloc.{Alloc}
 use Rattle.gc.specs.declared.Alloc.the-variants.{At, Refused}
-use Rattle.gc.specs.Pages.{Pages, Block, growOf, gapOf, block, pushed, fitted, allocated}
+use Rattle.gc.specs.Pages.{Pages, Block, gapOf, block, pushed, fitted, allocated}
 use Rattle.gc.specs.Pages as Pages
-use Rattle.gc.specs.Lent.{pageSize, pagesOf, numbersOf, fits, Outcome, outcome, grantedIn, allocOf, Sound}
+use Rattle.gc.specs.Lent.{pageSize, pagesOf, numbersOf, fits, Outcome, outcome, grantedIn, allocOf}
 use Rattle.gc.specs.Lent as Heap
 use Rattle.gc.proofs.Growth.{grow-enough}
 use Rattle.gc.proofs.Soundness.{sound}
 use Rattle.vm.specs.declared.State.{State}
-use Rattle.vm.specs.Image.{test, failing}
+use Rattle.vm.specs.Image.{failing}
 use Rattle.vm.specs.Core.{Land, used, lacking, short, setLand, setPages, setBytes}
 use Rattle.vm.specs.Names.{Given, filled, entered, fresh, known, interned}
-use Rattle.vm.specs.Machine.{Lent, Machine, sizes, landOf, view, Called, value, refused, host, Host, intern, internSmall, withPages, withNames, hosted, hostLeaves, granted, hostCall, act, heapOk, slotsOk, pagesBelong, namesBelong, smallOk, tests, tried, perform}
+use Rattle.vm.specs.Machine.{Lent, Machine, sizes, landOf, view, Called, value, refused, host, intern, internSmall, withPages, withNames, hosted, hostLeaves, granted, hostCall, act, heapOk, slotsOk, pagesBelong, namesBelong, smallOk, tests, tried, perform}
 use Rattle.vm.specs.Told.{lentOf, machineOf}
 use Rattle.vm.specs.Interned.{written, nameBlock, Belong}
 use Rattle.vm.proofs.Fits.{take-fits}
@@ -94,25 +93,44 @@ slot-most n e = at 64 _ (omega arith) (at 128 _ (omega arith) (at 256 _ (omega a
         go false q e = f e
 
 module _ (s : State) (heap slots spare : List ℕ) where
-  pub belong : (heapOk (s .gc .base) (length heap) && slotsOk (length slots) (length spare)) ≡ true
-      → (Heap.soundOf (s .gc) (length heap) && Table.soundOf (s .gc .base) (s .gc .pushed) (s .strings) slots) ≡ true → Belong s heap slots spare
-  unfolding slotsOk Table.soundOf Table.slotsOk Table.countOk
-  belong e f =
-      let sizes = both (heapOk (s .gc .base) (length heap)) _ e in
-      let lent = both (Table.slotCount (length slots)) _ (sizes .1) in
-      let own = both (Heap.soundOf (s .gc) (length heap)) _ f in
-      let table = both (Table.activeOk (s .strings .active) (length slots)) _ (own .1) in
-      let count = both (Table.headersIn (s .gc .base) (s .gc .pushed) (take (s .strings .active) slots)) _ (table .1) in
-      let half = both (eqb (Table.filledIn (take (s .strings .active) slots)) (s .strings .len)) _ (count .1) in
-      let active = active-within (s .strings .active) (length slots) (table .0) in
-      let l = length-take-le (s .strings .active) slots active in
-      record {
-        pages = sound (s .gc) heap (heap-low (s .gc .base) (length heap) (sizes .0)) (own .0);
-        active = active;
-        few = omega (arith, leb-true (s .strings .len * 2) (length (take (s .strings .active) slots)) (half .1));
-        most = slot-most (length slots) (lent .0);
-        as-long = eqb-true (length spare) (length slots) (lent .1);
-      }
+  abbrev sizes-ok : Bool
+  sizes-ok = heapOk (s .gc .base) (length heap) && slotsOk (length slots) (length spare)
+
+  abbrev names-ok : Bool
+  names-ok = Heap.soundOf (s .gc) (length heap) && Table.soundOf (s .gc .base) (s .gc .pushed) (s .strings) slots
+
+pub record Passed (s : State) (heap slots spare : List ℕ) : Type 0 where
+  pub sizes : sizes-ok s heap slots spare ≡ true
+  pub names : names-ok s heap slots spare ≡ true
+
+module _ (s : State) (heap slots spare : List ℕ) {a b : Bool} (e : a ≡ heapOk (s .gc .base) (length heap)) (f : b ≡ slotsOk (length slots) (length spare)) where
+  pub wrong-sizes : not (a && b) ≡ true → sizes-ok s heap slots spare ≡ false
+  wrong-sizes h = rw (← e, ← f) (not-true _ h)
+
+  pub right-sizes : not (a && b) ≡ false → sizes-ok s heap slots spare ≡ true
+  right-sizes h = rw (← e, ← f) (not-false _ h)
+
+  pub passed : not (a && b) ≡ false → {c : Bool} → c ≡ names-ok s heap slots spare → not c ≡ false → Passed s heap slots spare
+  passed h g k = record { sizes = right-sizes h; names = sym g ∙ not-false _ k }
+
+pub belong : (s : State) (heap slots spare : List ℕ) → Passed s heap slots spare → Belong s heap slots spare
+unfolding slotsOk Table.soundOf Table.slotsOk Table.countOk
+belong s heap slots spare p =
+    let sizes = both (heapOk (s .gc .base) (length heap)) _ (p .sizes) in
+    let lent = both (Table.slotCount (length slots)) _ (sizes .1) in
+    let own = both (Heap.soundOf (s .gc) (length heap)) _ (p .names) in
+    let table = both (Table.activeOk (s .strings .active) (length slots)) _ (own .1) in
+    let count = both (Table.headersIn (s .gc .base) (s .gc .pushed) (take (s .strings .active) slots)) _ (table .1) in
+    let half = both (eqb (Table.filledIn (take (s .strings .active) slots)) (s .strings .len)) _ (count .1) in
+    let active = active-within (s .strings .active) (length slots) (table .0) in
+    let l = length-take-le (s .strings .active) slots active in
+    record {
+      pages = sound (s .gc) heap (heap-low (s .gc .base) (length heap) (sizes .0)) (own .0);
+      active = active;
+      few = omega (arith, leb-true (s .strings .len * 2) (length (take (s .strings .active) slots)) (half .1));
+      most = slot-most (length slots) (lent .0);
+      as-long = eqb-true (length spare) (length slots) (lent .1);
+    }
 
 -- ---- the block of a name
 
@@ -293,31 +311,25 @@ module _ (s : State) (frames heap slots spare name : List ℕ) where
 
   -- ---- the tests in turn
 
-  abbrev sizes-ok : Bool
-  sizes-ok = heapOk (s .gc .base) (length heap) && slotsOk (length slots) (length spare)
-
-  abbrev names-ok : Bool
-  names-ok = Heap.soundOf (s .gc) (length heap) && Table.soundOf (s .gc .base) (s .gc .pushed) (s .strings) slots
-
   abbrev probed : ℕ → Probe
   probed hash = lookup (holds (s .gc .base) (take (s .gc .pushed) heap) name hash) (take (s .strings .active) slots) hash
-
-  pub intern-10 : sizes-ok ≡ false → refuses 10 s (lentOf frames heap slots spare) ≡ perform (host (intern name)) machine
-  unfolding perform tests failing tried
-  intern-10 e = rw (e, failing, tried) refl
-
-  pub intern-9 : sizes-ok ≡ true → names-ok ≡ false → refuses 9 s (lentOf frames heap slots spare) ≡ perform (host (intern name)) machine
-  unfolding perform tests failing tried namesBelong pagesBelong
-  intern-9 e f = rw (e, f, failing, tried) refl
 
   found-is : (hash : ℕ) → hash ≡ hashOf name → (p : Probe) → p ≡ probed hash → known name (landOf machine) p ≡ interned name (landOf machine)
   unfolding interned landOf pagesOf
   found-is hash h p e = rw (e, h) refl
 
-  pub intern-acts : sizes-ok ≡ true → names-ok ≡ true → (hash : ℕ) → hash ≡ hashOf name → (p : Probe) → p ≡ probed hash
-      → hostCall (intern name) machine (known name (landOf machine) p) ≡ perform (host (intern name)) machine
+  pub intern-10 : sizes-ok s heap slots spare ≡ false → refuses 10 s (lentOf frames heap slots spare) ≡ perform (host (intern name)) machine
+  unfolding perform tests failing tried
+  intern-10 e = rw (e, failing, tried) refl
+
+  pub intern-9 : sizes-ok s heap slots spare ≡ true → names-ok s heap slots spare ≡ false → refuses 9 s (lentOf frames heap slots spare) ≡ perform (host (intern name)) machine
+  unfolding perform tests failing tried namesBelong pagesBelong
+  intern-9 e f = rw (e, f, failing, tried) refl
+
+  pub intern-told : Passed s heap slots spare → (hash : ℕ) → hash ≡ hashOf name → (p : Probe) (x : Called) → x ≡ hostCall (intern name) machine (known name (landOf machine) p) → p ≡ probed hash
+      → x ≡ perform (host (intern name)) machine
   unfolding perform tests failing tried namesBelong pagesBelong act hosted
-  intern-acts e f hash h p q = rw (e, f, failing, tried, found-is hash h p q) refl
+  intern-told g hash h p x e q = e ∙ rw (g .sizes, g .names, failing, tried, found-is hash h p q) refl
 
 -- ---- a small name, unpacked
 
@@ -348,23 +360,22 @@ module _ (s : State) (frames heap slots spare : List ℕ) (n w : ℕ) where
   as-name none g = refl
   as-name (some e) g = refl
 
-  pub small-10 : sizes-ok s frames heap slots spare [] ≡ false → refuses 10 s (lentOf frames heap slots spare) ≡ perform (host (internSmall n w)) small-machine
+  pub small-10 : sizes-ok s heap slots spare ≡ false → refuses 10 s (lentOf frames heap slots spare) ≡ perform (host (internSmall n w)) small-machine
   unfolding perform tests failing tried
   small-10 e = rw (e, failing, tried) refl
 
-  module _ (e : sizes-ok s frames heap slots spare [] ≡ true) where
-    pub small-9 : names-ok s frames heap slots spare [] ≡ false → refuses 9 s (lentOf frames heap slots spare) ≡ perform (host (internSmall n w)) small-machine
-    unfolding perform tests failing tried namesBelong pagesBelong
-    small-9 f = rw (e, f, failing, tried) refl
+  pub small-9 : sizes-ok s heap slots spare ≡ true → names-ok s heap slots spare ≡ false → refuses 9 s (lentOf frames heap slots spare) ≡ perform (host (internSmall n w)) small-machine
+  unfolding perform tests failing tried namesBelong pagesBelong
+  small-9 e f = rw (e, f, failing, tried) refl
 
-    module _ (f : names-ok s frames heap slots spare [] ≡ true) where
-      pub small-17 : smallOk n w ≡ false → refuses 17 s (lentOf frames heap slots spare) ≡ perform (host (internSmall n w)) small-machine
-      unfolding perform tests failing tried namesBelong pagesBelong
-      small-17 k = rw (e, f, k, failing, tried) refl
+  pub small-17 : Passed s heap slots spare → smallOk n w ≡ false → refuses 17 s (lentOf frames heap slots spare) ≡ perform (host (internSmall n w)) small-machine
+  unfolding perform tests failing tried namesBelong pagesBelong
+  small-17 g k = rw (g .sizes, g .names, k, failing, tried) refl
 
-      pub small-acts : smallOk n w ≡ true → (hash : ℕ) → hash ≡ smallHashOf n w → (p : Probe) → p ≡ probed s frames heap slots spare (smallName n w) hash → (name : List ℕ) → name ≡ smallName n w
-          → hostCall (intern name) small-machine (known name (landOf small-machine) p) ≡ perform (host (internSmall n w)) small-machine
-      unfolding perform tests failing tried namesBelong pagesBelong act hosted hostCall
-      small-acts k hash h p q name i =
-          let fine = small-says n w k in
-          rw (e, f, k, failing, tried, i, found-is s frames heap slots spare (smallName n w) hash (h ∙ small-hash-is n w (fine .0) (fine .1)) p q) (as-name _ _)
+  pub small-told : Passed s heap slots spare → smallOk n w ≡ true → (hash : ℕ) → hash ≡ smallHashOf n w → (name : List ℕ) → name ≡ smallName n w
+      → (p : Probe) (x : Called) → x ≡ hostCall (intern name) small-machine (known name (landOf small-machine) p) → p ≡ probed s frames heap slots spare (smallName n w) hash
+      → x ≡ perform (host (internSmall n w)) small-machine
+  unfolding perform tests failing tried namesBelong pagesBelong act hosted hostCall
+  small-told g k hash h name i p x e q =
+      let fine = small-says n w k in
+      e ∙ rw (g .sizes, g .names, k, failing, tried, i, found-is s frames heap slots spare (smallName n w) hash (h ∙ small-hash-is n w (fine .0) (fine .1)) p q) (as-name _ _)

@@ -3,8 +3,6 @@ ghost use mathlib.Core.Path.{_≡_};
 ghost use mathlib.Core.Bool.{_&&_};
 ghost use mathlib.Core.List.{List};
 ghost use Prim.Native.Nat.{ℕ};
-ghost use lib.ListN.{length};
-ghost use Rattle.string.specs.declared.table.Probe.{Probe};
 ghost use Rattle.string.specs.Hash.{hashOf};
 ghost use Rattle.string.specs.Sound as Table;
 ghost use Rattle.gc.specs.Lent.{pagesOf, outcome, grantedIn, Sound};

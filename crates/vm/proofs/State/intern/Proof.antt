@@ -1,10 +1,9 @@
 -- `vm::State::intern` meets its contract. Assumes nothing.
 use mathlib.Core.Path.{sym, _∙_}
-use mathlib.Core.Bool.{_&&_}
-use borrow.Author.Tests.{not-true, not-false}
+use borrow.Author.Tests.{not-true}
 use lib.Seq.{length-take-le}
 use Rattle.vm.specs.Told.{saidOf}
-use Rattle.vm.proofs.Interning.{belong, intern-10, intern-9, intern-acts}
+use Rattle.vm.proofs.Interning.{wrong-sizes, right-sizes, passed, belong, intern-10, intern-9, intern-told}
 use borrow.Author.Needs.{needs}
 use Rattle.vm.proofs.State.intern.Statement.{statement}
 use Rattle.vm.proofs.State.intern.Tie as tie
@@ -16,7 +15,7 @@ returns c =
     let slots-ok = if1 .before in
     let heap-ok = slots-ok .before in
     let start = heap-ok .before .before .before .before .before .before in
-    λ frames. rw (c .refused .ensures) (intern-10 (start .args .self) frames (start .args .heap .now) (start .args .slots .now) (start .args .spare .now) (start .args .s .now) (rw (← heap-ok .heap-ok .ensures, ← slots-ok .slots-ok .ensures) (not-true _ (if1 .if1 .taken))))
+    λ frames. rw (c .refused .ensures) (intern-10 _ frames _ _ _ _ (wrong-sizes (start .args .self) (start .args .heap .now) (start .args .slots .now) (start .args .spare .now) (heap-ok .heap-ok .ensures) (slots-ok .slots-ok .ensures) (if1 .if1 .taken)))
 
 returns-2 : tie.Need-returns-2
 unfolding saidOf
@@ -27,7 +26,7 @@ returns-2 c =
     let slots-ok = if1 .before in
     let heap-ok = slots-ok .before in
     let start = heap-ok .before .before .before .before .before .before in
-    λ frames. rw (c .refused2 .ensures) (intern-9 (start .args .self) frames (start .args .heap .now) (start .args .slots .now) (start .args .spare .now) (start .args .s .now) (rw (← heap-ok .heap-ok .ensures, ← slots-ok .slots-ok .ensures) (not-false _ (if1 .if1 .left))) (sym (names-belong .names-belong .ensures) ∙ not-true _ (if2 .if2 .taken)))
+    λ frames. rw (c .refused2 .ensures) (intern-9 _ frames _ _ _ _ (right-sizes (start .args .self) (start .args .heap .now) (start .args .slots .now) (start .args .spare .now) (heap-ok .heap-ok .ensures) (slots-ok .slots-ok .ensures) (if1 .if1 .left)) (sym (names-belong .names-belong .ensures) ∙ not-true _ (if2 .if2 .taken)))
 
 slice-reshare-prefix-get : tie.Need-slice-reshare-prefix-get
 slice-reshare-prefix-get c =
@@ -37,7 +36,7 @@ slice-reshare-prefix-get c =
     let slots-ok = if1 .before in
     let heap-ok = slots-ok .before in
     let start = heap-ok .before .before .before .before .before .before in
-    belong (start .args .self) (start .args .heap .now) (start .args .slots .now) (start .args .spare .now) (rw (← heap-ok .heap-ok .ensures, ← slots-ok .slots-ok .ensures) (not-false _ (if1 .if1 .left))) (sym (names-belong .names-belong .ensures) ∙ not-false _ (if2 .if2 .left)) .pages .in-heap
+    belong _ _ _ _ (passed (start .args .self) (start .args .heap .now) (start .args .slots .now) (start .args .spare .now) (heap-ok .heap-ok .ensures) (slots-ok .slots-ok .ensures) (if1 .if1 .left) (names-belong .names-belong .ensures) (if2 .if2 .left)) .pages .in-heap
 
 slice-aggregate-get : tie.Need-slice-aggregate-get
 slice-aggregate-get c =
@@ -47,7 +46,7 @@ slice-aggregate-get c =
     let slots-ok = if1 .before in
     let heap-ok = slots-ok .before in
     let start = heap-ok .before .before .before .before .before .before in
-    sym (length-take-le _ _ (belong (start .args .self) (start .args .heap .now) (start .args .slots .now) (start .args .spare .now) (rw (← heap-ok .heap-ok .ensures, ← slots-ok .slots-ok .ensures) (not-false _ (if1 .if1 .left))) (sym (names-belong .names-belong .ensures) ∙ not-false _ (if2 .if2 .left)) .pages .in-heap))
+    sym (length-take-le _ _ (belong _ _ _ _ (passed (start .args .self) (start .args .heap .now) (start .args .slots .now) (start .args .spare .now) (heap-ok .heap-ok .ensures) (slots-ok .slots-ok .ensures) (if1 .if1 .left) (names-belong .names-belong .ensures) (if2 .if2 .left)) .pages .in-heap))
 
 slice-reshare-prefix-get-2 : tie.Need-slice-reshare-prefix-get-2
 slice-reshare-prefix-get-2 c =
@@ -57,7 +56,7 @@ slice-reshare-prefix-get-2 c =
     let slots-ok = if1 .before in
     let heap-ok = slots-ok .before in
     let start = heap-ok .before .before .before .before .before .before in
-    belong (start .args .self) (start .args .heap .now) (start .args .slots .now) (start .args .spare .now) (rw (← heap-ok .heap-ok .ensures, ← slots-ok .slots-ok .ensures) (not-false _ (if1 .if1 .left))) (sym (names-belong .names-belong .ensures) ∙ not-false _ (if2 .if2 .left)) .active
+    belong _ _ _ _ (passed (start .args .self) (start .args .heap .now) (start .args .slots .now) (start .args .spare .now) (heap-ok .heap-ok .ensures) (slots-ok .slots-ok .ensures) (if1 .if1 .left) (names-belong .names-belong .ensures) (if2 .if2 .left)) .active
 
 slice-aggregate-get-2 : tie.Need-slice-aggregate-get-2
 slice-aggregate-get-2 c =
@@ -67,7 +66,7 @@ slice-aggregate-get-2 c =
     let slots-ok = if1 .before in
     let heap-ok = slots-ok .before in
     let start = heap-ok .before .before .before .before .before .before in
-    sym (length-take-le _ _ (belong (start .args .self) (start .args .heap .now) (start .args .slots .now) (start .args .spare .now) (rw (← heap-ok .heap-ok .ensures, ← slots-ok .slots-ok .ensures) (not-false _ (if1 .if1 .left))) (sym (names-belong .names-belong .ensures) ∙ not-false _ (if2 .if2 .left)) .active))
+    sym (length-take-le _ _ (belong _ _ _ _ (passed (start .args .self) (start .args .heap .now) (start .args .slots .now) (start .args .spare .now) (heap-ok .heap-ok .ensures) (slots-ok .slots-ok .ensures) (if1 .if1 .left) (names-belong .names-belong .ensures) (if2 .if2 .left)) .active))
 
 known-requires : tie.Need-known-requires
 known-requires c κs =
@@ -78,7 +77,7 @@ known-requires c κs =
     let slots-ok = if1 .before in
     let heap-ok = slots-ok .before in
     let start = heap-ok .before .before .before .before .before .before in
-    (belong (start .args .self) (start .args .heap .now) (start .args .slots .now) (start .args .spare .now) (rw (← heap-ok .heap-ok .ensures, ← slots-ok .slots-ok .ensures) (not-false _ (if1 .if1 .left))) (sym (names-belong .names-belong .ensures) ∙ not-false _ (if2 .if2 .left)), hash .hash .ensures)
+    (belong _ _ _ _ (passed (start .args .self) (start .args .heap .now) (start .args .slots .now) (start .args .spare .now) (heap-ok .heap-ok .ensures) (slots-ok .slots-ok .ensures) (if1 .if1 .left) (names-belong .names-belong .ensures) (if2 .if2 .left)), hash .hash .ensures)
 
 returns-3 : tie.Need-returns-3
 returns-3 c =
@@ -91,7 +90,7 @@ returns-3 c =
     let slots-ok = if1 .before in
     let heap-ok = slots-ok .before in
     let start = heap-ok .before .before .before .before .before .before in
-    λ frames. known .known .ensures frames ∙ intern-acts (start .args .self) frames (start .args .heap .now) (start .args .slots .now) (start .args .spare .now) (start .args .s .now) (rw (← heap-ok .heap-ok .ensures, ← slots-ok .slots-ok .ensures) (not-false _ (if1 .if1 .left))) (sym (names-belong .names-belong .ensures) ∙ not-false _ (if2 .if2 .left)) _ (hash .hash .ensures) _ (get .get .ensures)
+    λ frames. intern-told _ frames _ _ _ _ (passed (start .args .self) (start .args .heap .now) (start .args .slots .now) (start .args .spare .now) (heap-ok .heap-ok .ensures) (slots-ok .slots-ok .ensures) (if1 .if1 .left) (names-belong .names-belong .ensures) (if2 .if2 .left)) _ (hash .hash .ensures) _ _ (known .known .ensures frames) (get .get .ensures)
 
 pub intern-spec : {M : Type 1} → statement M
 intern-spec =

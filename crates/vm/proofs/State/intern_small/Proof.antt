@@ -1,10 +1,9 @@
 -- `vm::State::intern_small` meets its contract. Assumes nothing.
 use mathlib.Core.Path.{refl, sym, _∙_}
-use mathlib.Core.Bool.{_&&_}
 use borrow.Author.Tests.{not-true, not-false}
 use lib.Seq.{length-take-le}
 use Rattle.vm.specs.Told.{saidOf}
-use Rattle.vm.proofs.Interning.{belong, small-says, small-10, small-9, small-17, small-room, small-bytes, small-hashed, small-acts}
+use Rattle.vm.proofs.Interning.{wrong-sizes, right-sizes, passed, belong, small-says, small-10, small-9, small-17, small-room, small-bytes, small-hashed, small-told}
 use borrow.Author.Needs.{needs}
 use Rattle.vm.proofs.State.intern_small.Statement.{statement}
 use Rattle.vm.proofs.State.intern_small.Tie as tie
@@ -16,7 +15,7 @@ returns c =
     let slots-ok = if1 .before in
     let heap-ok = slots-ok .before in
     let start = heap-ok .before .before .before .before .before in
-    λ frames. rw (c .refused .ensures) (small-10 (start .args .self) frames (start .args .heap .now) (start .args .slots .now) (start .args .spare .now) (start .args .len) (start .args .word) (rw (← heap-ok .heap-ok .ensures, ← slots-ok .slots-ok .ensures) (not-true _ (if1 .if1 .taken))))
+    λ frames. rw (c .refused .ensures) (small-10 _ frames _ _ _ _ _ (wrong-sizes (start .args .self) (start .args .heap .now) (start .args .slots .now) (start .args .spare .now) (heap-ok .heap-ok .ensures) (slots-ok .slots-ok .ensures) (if1 .if1 .taken)))
 
 returns-2 : tie.Need-returns-2
 unfolding saidOf
@@ -27,7 +26,7 @@ returns-2 c =
     let slots-ok = if1 .before in
     let heap-ok = slots-ok .before in
     let start = heap-ok .before .before .before .before .before in
-    λ frames. rw (c .refused2 .ensures) (small-9 (start .args .self) frames (start .args .heap .now) (start .args .slots .now) (start .args .spare .now) (start .args .len) (start .args .word) (rw (← heap-ok .heap-ok .ensures, ← slots-ok .slots-ok .ensures) (not-false _ (if1 .if1 .left))) (sym (names-belong .names-belong .ensures) ∙ not-true _ (if2 .if2 .taken)))
+    λ frames. rw (c .refused2 .ensures) (small-9 _ frames _ _ _ _ _ (right-sizes (start .args .self) (start .args .heap .now) (start .args .slots .now) (start .args .spare .now) (heap-ok .heap-ok .ensures) (slots-ok .slots-ok .ensures) (if1 .if1 .left)) (sym (names-belong .names-belong .ensures) ∙ not-true _ (if2 .if2 .taken)))
 
 returns-3 : tie.Need-returns-3
 unfolding saidOf
@@ -40,7 +39,7 @@ returns-3 c =
     let slots-ok = if1 .before in
     let heap-ok = slots-ok .before in
     let start = heap-ok .before .before .before .before .before in
-    λ frames. rw (c .refused3 .ensures) (small-17 (start .args .self) frames (start .args .heap .now) (start .args .slots .now) (start .args .spare .now) (start .args .len) (start .args .word) (rw (← heap-ok .heap-ok .ensures, ← slots-ok .slots-ok .ensures) (not-false _ (if1 .if1 .left))) (sym (names-belong .names-belong .ensures) ∙ not-false _ (if2 .if2 .left)) (sym (small-ok .small-ok .ensures) ∙ not-true _ (if3 .if3 .taken)))
+    λ frames. rw (c .refused3 .ensures) (small-17 _ frames _ _ _ _ _ (passed (start .args .self) (start .args .heap .now) (start .args .slots .now) (start .args .spare .now) (heap-ok .heap-ok .ensures) (slots-ok .slots-ok .ensures) (if1 .if1 .left) (names-belong .names-belong .ensures) (if2 .if2 .left)) (sym (small-ok .small-ok .ensures) ∙ not-true _ (if3 .if3 .taken)))
 
 slice-reshare-prefix-get-small : tie.Need-slice-reshare-prefix-get-small
 slice-reshare-prefix-get-small c =
@@ -50,7 +49,7 @@ slice-reshare-prefix-get-small c =
     let slots-ok = if1 .before in
     let heap-ok = slots-ok .before in
     let start = heap-ok .before .before .before .before .before in
-    belong (start .args .self) (start .args .heap .now) (start .args .slots .now) (start .args .spare .now) (rw (← heap-ok .heap-ok .ensures, ← slots-ok .slots-ok .ensures) (not-false _ (if1 .if1 .left))) (sym (names-belong .names-belong .ensures) ∙ not-false _ (if2 .if2 .left)) .pages .in-heap
+    belong _ _ _ _ (passed (start .args .self) (start .args .heap .now) (start .args .slots .now) (start .args .spare .now) (heap-ok .heap-ok .ensures) (slots-ok .slots-ok .ensures) (if1 .if1 .left) (names-belong .names-belong .ensures) (if2 .if2 .left)) .pages .in-heap
 
 slice-aggregate-get-small : tie.Need-slice-aggregate-get-small
 slice-aggregate-get-small c =
@@ -60,7 +59,7 @@ slice-aggregate-get-small c =
     let slots-ok = if1 .before in
     let heap-ok = slots-ok .before in
     let start = heap-ok .before .before .before .before .before in
-    sym (length-take-le _ _ (belong (start .args .self) (start .args .heap .now) (start .args .slots .now) (start .args .spare .now) (rw (← heap-ok .heap-ok .ensures, ← slots-ok .slots-ok .ensures) (not-false _ (if1 .if1 .left))) (sym (names-belong .names-belong .ensures) ∙ not-false _ (if2 .if2 .left)) .pages .in-heap))
+    sym (length-take-le _ _ (belong _ _ _ _ (passed (start .args .self) (start .args .heap .now) (start .args .slots .now) (start .args .spare .now) (heap-ok .heap-ok .ensures) (slots-ok .slots-ok .ensures) (if1 .if1 .left) (names-belong .names-belong .ensures) (if2 .if2 .left)) .pages .in-heap))
 
 slice-reshare-prefix-get-small-2 : tie.Need-slice-reshare-prefix-get-small-2
 slice-reshare-prefix-get-small-2 c =
@@ -70,7 +69,7 @@ slice-reshare-prefix-get-small-2 c =
     let slots-ok = if1 .before in
     let heap-ok = slots-ok .before in
     let start = heap-ok .before .before .before .before .before in
-    belong (start .args .self) (start .args .heap .now) (start .args .slots .now) (start .args .spare .now) (rw (← heap-ok .heap-ok .ensures, ← slots-ok .slots-ok .ensures) (not-false _ (if1 .if1 .left))) (sym (names-belong .names-belong .ensures) ∙ not-false _ (if2 .if2 .left)) .active
+    belong _ _ _ _ (passed (start .args .self) (start .args .heap .now) (start .args .slots .now) (start .args .spare .now) (heap-ok .heap-ok .ensures) (slots-ok .slots-ok .ensures) (if1 .if1 .left) (names-belong .names-belong .ensures) (if2 .if2 .left)) .active
 
 slice-aggregate-get-small-2 : tie.Need-slice-aggregate-get-small-2
 slice-aggregate-get-small-2 c =
@@ -80,7 +79,7 @@ slice-aggregate-get-small-2 c =
     let slots-ok = if1 .before in
     let heap-ok = slots-ok .before in
     let start = heap-ok .before .before .before .before .before in
-    sym (length-take-le _ _ (belong (start .args .self) (start .args .heap .now) (start .args .slots .now) (start .args .spare .now) (rw (← heap-ok .heap-ok .ensures, ← slots-ok .slots-ok .ensures) (not-false _ (if1 .if1 .left))) (sym (names-belong .names-belong .ensures) ∙ not-false _ (if2 .if2 .left)) .active))
+    sym (length-take-le _ _ (belong _ _ _ _ (passed (start .args .self) (start .args .heap .now) (start .args .slots .now) (start .args .spare .now) (heap-ok .heap-ok .ensures) (slots-ok .slots-ok .ensures) (if1 .if1 .left) (names-belong .names-belong .ensures) (if2 .if2 .left)) .active))
 
 get-small-requires : tie.Need-get-small-requires
 get-small-requires c κs =
@@ -114,7 +113,7 @@ known-requires c κs =
     let slots-ok = if1 .before in
     let heap-ok = slots-ok .before in
     let start = heap-ok .before .before .before .before .before in
-    (belong (start .args .self) (start .args .heap .now) (start .args .slots .now) (start .args .spare .now) (rw (← heap-ok .heap-ok .ensures, ← slots-ok .slots-ok .ensures) (not-false _ (if1 .if1 .left))) (sym (names-belong .names-belong .ensures) ∙ not-false _ (if2 .if2 .left)), small-hashed _ _ (sym (small-ok .small-ok .ensures) ∙ not-false _ (if3 .if3 .left)) _ _ refl (store8 .store8 .ensures) _ (small-hash .small-hash .ensures))
+    (belong _ _ _ _ (passed (start .args .self) (start .args .heap .now) (start .args .slots .now) (start .args .spare .now) (heap-ok .heap-ok .ensures) (slots-ok .slots-ok .ensures) (if1 .if1 .left) (names-belong .names-belong .ensures) (if2 .if2 .left)), small-hashed _ _ (sym (small-ok .small-ok .ensures) ∙ not-false _ (if3 .if3 .left)) _ _ refl (store8 .store8 .ensures) _ (small-hash .small-hash .ensures))
 
 returns-4 : tie.Need-returns-4
 returns-4 c =
@@ -130,7 +129,7 @@ returns-4 c =
     let slots-ok = if1 .before in
     let heap-ok = slots-ok .before in
     let start = heap-ok .before .before .before .before .before in
-    λ frames. known .known .ensures frames ∙ small-acts (start .args .self) frames (start .args .heap .now) (start .args .slots .now) (start .args .spare .now) (start .args .len) (start .args .word) (rw (← heap-ok .heap-ok .ensures, ← slots-ok .slots-ok .ensures) (not-false _ (if1 .if1 .left))) (sym (names-belong .names-belong .ensures) ∙ not-false _ (if2 .if2 .left)) (sym (small-ok .small-ok .ensures) ∙ not-false _ (if3 .if3 .left)) _ (small-hash .small-hash .ensures) _ (get-small .get-small .ensures) _ (small-bytes _ _ (sym (small-ok .small-ok .ensures) ∙ not-false _ (if3 .if3 .left)) _ _ refl (store8 .store8 .ensures))
+    λ frames. small-told _ frames _ _ _ _ _ (passed (start .args .self) (start .args .heap .now) (start .args .slots .now) (start .args .spare .now) (heap-ok .heap-ok .ensures) (slots-ok .slots-ok .ensures) (if1 .if1 .left) (names-belong .names-belong .ensures) (if2 .if2 .left)) (sym (small-ok .small-ok .ensures) ∙ not-false _ (if3 .if3 .left)) _ (small-hash .small-hash .ensures) _ (small-bytes _ _ (sym (small-ok .small-ok .ensures) ∙ not-false _ (if3 .if3 .left)) _ _ refl (store8 .store8 .ensures)) _ _ (known .known .ensures frames) (get-small .get-small .ensures)
 
 pub intern-small-spec : {M : Type 1} → statement M
 intern-small-spec =
