@@ -15,3 +15,4 @@ pub mod Asks
 pub mod Replies
 pub mod Boxes
 pub mod Loading
+pub mod Interning

@@ -6,3 +6,4 @@ pub mod Run
 pub mod Names
 pub mod Machine
 pub mod Told
+pub mod Interned

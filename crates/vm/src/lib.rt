@@ -11,6 +11,7 @@ pub mod effects;
 pub mod image;
 pub mod lent;
 pub mod start;
+pub mod names;
 
 use anomaly::Refusal;
 use gc::Alloc;

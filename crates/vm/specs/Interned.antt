@@ -1,0 +1,27 @@
+-- What the parts of an interning come to over the lent buffers. Definitions only.
+use mathlib.Core.Path.{_≡_}
+use Prim.Native.Nat.{ℕ, _-_, _≤_}
+use mathlib.Core.List.{List}
+use lib.ListN.{length}
+use Rattle.memory.specs.Lists.{write}
+use Rattle.string.specs.Payload.{payloadOf, payloadSize}
+use Rattle.gc.specs.Pages.{Pages, Block, allocated}
+use Rattle.gc.specs.Lent.{pageSize, Sound}
+use Rattle.vm.specs.declared.State.{State}
+use Rattle.vm.specs.Core.{setBytes}
+
+-- a block with bytes written into its payload
+unfoldable pub written : List ℕ → Block → Block
+written bs b = record { address = b .address; pages = setBytes (write (b .address - b .pages .base) bs (b .pages .bytes)) (b .pages) }
+
+-- the block of a new name: a String (3), with its header and bytes
+abbrev pub nameBlock : List ℕ → ℕ → Pages → Block
+nameBlock s hash p = written (payloadOf s hash) (allocated pageSize 3 (payloadSize (length s)) p)
+
+-- what 10 and 9 have tested before a name is looked for
+pub record Belong (s : State) (heap slots spare : List ℕ) : Type 0 where
+  pub pages : Sound (s .gc) heap
+  pub active : s .strings .active ≤ length slots
+  pub few : s .strings .len ≤ s .strings .active
+  pub most : length slots ≤ 4096
+  pub as-long : length spare ≡ length slots
