@@ -10,8 +10,8 @@ ghost use Rattle.vm.specs.Told.{lentOf, machineOf, told, refusedBy, allo
 pub mod effects;
 pub mod image;
 pub mod lent;
-pub mod start;
 pub mod names;
+pub mod start;
 
 use anomaly::Refusal;
 use gc::Alloc;
