@@ -7,7 +7,7 @@ ghost use Rattle.gc.specs.Lent.{Sound, outcome, grantedIn};
 ghost use Rattle.vm.specs.Names.{boxed};
 ghost use Rattle.vm.specs.Told.{lentOf, machineOf, told, refusedBy, allocatedIn, blockOf, landIn, optionOf};
 
-pub mod effects;
+mod effects;
 pub mod image;
 pub mod lent;
 pub mod names;
@@ -70,7 +70,7 @@ pub struct Called {
 const UNSET: u64 = 18446744073709551615;
 
 // An Option of two words, a tag and a value.
-pub fn boxed(gc: Gc, tag: u64, value: u64, heap: &mut [u8]) -> Alloc
+fn boxed(gc: Gc, tag: u64, value: u64, heap: &mut [u8]) -> Alloc
     requires { ⌜ Sound gc (now heap) ⌝ }
     ensures { λ r. ⌜ outcome r (now (heap .exit)) ≡ grantedIn (blockOf (boxed tag value (landIn gc (now (heap .entry))))) (now (heap .entry)) ⌝ }
 {
