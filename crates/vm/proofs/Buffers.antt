@@ -13,7 +13,7 @@ use Rattle.gc.specs.Lent.{pageSize}
 use Rattle.gc.proofs.Soundness.{end-is}
 use Rattle.vm.specs.declared.State.{State}
 use Rattle.vm.specs.Image.{below}
-use Rattle.vm.specs.Machine.{Lent, framesOk, heapOk, framesBelong}
+use Rattle.vm.specs.Machine.{Lent, framesOk, heapOk, returnsOk, framesBelong}
 
 pub frames-room : (n : ℕ) → framesOk n ≡ true → 1 ≤ n
 unfolding framesOk
@@ -49,21 +49,20 @@ tail-part d (x ∷ xs) = refl
 module _ (s : State) (l : Lent) where
   pub belong-deep : (words : ℕ) → length (l .frames) < s .depth → false ≡ framesBelong words s l
   unfolding framesBelong
-  belong-deep zero h = sym (lt-leb (s .depth) (length (l .frames)) h)
-  belong-deep (suc last) h = rw (lt-leb (s .depth) (length (l .frames)) h) refl
+  belong-deep words h = rw (lt-leb (s .depth) (length (l .frames)) h) refl
 
   module _ (fit : s .depth ≤ length (l .frames)) where
     pub belong-empty : true ≡ framesBelong 0 s l
-    unfolding framesBelong
-    belong-empty = sym (le-leb (s .depth) (length (l .frames)) fit)
+    unfolding framesBelong returnsOk
+    belong-empty = rw (le-leb (s .depth) (length (l .frames)) fit) refl
 
     pub belong-idle : (words : ℕ) → s .depth ≡ 0 → true ≡ framesBelong words s l
-    unfolding framesBelong below
+    unfolding framesBelong returnsOk below
     belong-idle zero e = belong-empty
     belong-idle (suc last) e = rw (le-leb (s .depth) (length (l .frames)) fit, e) refl
 
     pub belong-below : (words depth : ℕ) → (words ≡ 0 → ⊥) → (depth ≡ 0 → ⊥) → s .depth ≡ depth → below (words - 1) (take (depth - 1) (drop 1 (l .frames))) ≡ framesBelong words s l
-    unfolding framesBelong
+    unfolding framesBelong returnsOk
     belong-below zero depth w d e = absurd (w refl)
     belong-below (suc last) zero w d e = absurd (d refl)
     belong-below (suc last) (suc k) w d e =

@@ -21,7 +21,7 @@ use Rattle.vm.specs.Core.{Core, Sizes, used, short, _⊑_, setFrames}
 use Rattle.vm.specs.Image.{Image, Test, test, imageOk, endsInHalt, below, wordTest, wordTests, counts, imageTests, failing}
 use Rattle.vm.specs.Run.{Step, next, halted, stop, step, Ran, after, go, root, entered}
 use Rattle.vm.specs.Names.{Given}
-use Rattle.vm.specs.Machine.{Lent, Machine, sizes, landOf, view, Call, run, light, host, Host, Answer, ended, value, done, refused, ran, idle, runs, runCall, act, hosted, granted, hostCall, framesOk, heapOk, slotsOk, framesBelong, pagesBelong, tests, tried, perform, Started, declined, begun, starts, start}
+use Rattle.vm.specs.Machine.{Lent, Machine, sizes, landOf, view, Call, run, light, host, Host, Answer, ended, value, done, refused, ran, idle, runs, runCall, act, hosted, granted, hostCall, framesOk, heapOk, slotsOk, returnsOk, framesBelong, pagesBelong, tests, tried, perform, Started, declined, begun, starts, start}
 use Rattle.vm.proofs.Fits.{fits-of, none-of, take-fits}
 use Rattle.vm.proofs.Refusals.{failing-cons, failing-numbered, image-alone, call-numbered}
 use Rattle.vm.proofs.Upward.{go-next, go-halted, go-stop}
@@ -162,7 +162,7 @@ module _ (im : Image) (b : ℕ) (m : Machine) (passed : failing (tests (run im b
 
   -- from a pc inside the code of suc last words
   from-inside : (last : ℕ) → length (im .code) ≡ suc last → m .state .pc < suc last → Inside (length (im .code)) (entered (suc last) (view m))
-  unfolding entered setFrames view framesBelong
+  unfolding entered setFrames view framesBelong returnsOk
   from-inside last e l =
       let p = all-passed in
       let s : suc last ≤ 65536 = rw (← e) (p .size) in

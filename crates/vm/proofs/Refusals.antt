@@ -22,7 +22,7 @@ use Rattle.op.proofs.Sound.{check-refuses}
 use Rattle.vm.specs.declared.State.{State}
 use Rattle.vm.specs.Core.{Core, Land, Sizes, used, short}
 use Rattle.vm.specs.Image.{Image, Test, test, wordTest, wordTests, counts, imageOk, endsInHalt, below, imageTests, failing}
-use Rattle.vm.specs.Machine.{Lent, Machine, sizes, landOf, view, Light, reset, putPc, putReg, Host, allocate, option, intern, internSmall, Call, run, light, host, framesOk, heapOk, slotsOk, framesBelong, pagesBelong, namesBelong, smallOk, tests}
+use Rattle.vm.specs.Machine.{Lent, Machine, sizes, landOf, view, Light, reset, putPc, putReg, Host, allocate, option, intern, internSmall, Call, run, light, host, framesOk, heapOk, slotsOk, returnsOk, framesBelong, pagesBelong, namesBelong, smallOk, tests}
 use Rattle.vm.specs.Core.{_⊑_, spent}
 use Rattle.vm.proofs.Fits.{fits-of}
 use Rattle.vm.proofs.Holds.{Holds}
@@ -36,10 +36,6 @@ pub tableOn : Land → Bool
 tableOn l =
     (leb (length (l .slots)) (length (l .slots)) && (eqb (length (l .slots)) 0 || Table.slotCount (length (l .slots))))
     && Table.slotsOk (l .pages .base) (length (l .pages .bytes)) (l .names) (l .slots)
-
-pub framesOn : ℕ → Core → Bool
-framesOn zero c = true
-framesOn (suc last) c = below last (drop 1 (c .frames))
 
 -- pages that are within the lent heap are sound as in a heap of their own
 sound-lent : (g : Gc) (lent : ℕ) → g .pushed ≤ lent → Heap.soundOf g lent ≡ Heap.soundOf g (g .pushed)
@@ -62,10 +58,9 @@ module _ (n : Sizes) (c : Core) (m : Machine) (h : Holds n c m) where
   unfolding view
   frames-are = ap (λ (d : Core). d .frames) (h .core)
 
-  frames-same : (k : ℕ) → framesBelong k (m .state) (m .lent) ≡ framesOn k c
-  unfolding framesBelong framesOn
-  frames-same zero = depth-fits
-  frames-same (suc last) = rw (depth-fits, frames-are) refl
+  frames-same : (k : ℕ) → framesBelong k (m .state) (m .lent) ≡ returnsOk k (c .frames)
+  unfolding framesBelong
+  frames-same k = rw (depth-fits, frames-are) refl
 
   pages-same : pagesBelong (m .state) (m .lent) ≡ pagesOn (c .land)
   unfolding pagesBelong pagesOn sizes used numbersOf
@@ -104,7 +99,7 @@ module _ (n : Sizes) (c : Core) (m : Machine) (h : Holds n c m) where
 -- ---- all tests of a call
 
 unfoldable pub testsOn : Call → Core → List Test
-testsOn (run im b) c = imageTests true im ++ (test (framesOn (length (im .code)) c && pagesOn (c .land)) 9 ∷ [])
+testsOn (run im b) c = imageTests true im ++ (test (returnsOk (length (im .code)) (c .frames) && pagesOn (c .land)) 9 ∷ [])
 testsOn (light reset) c = test true 10 ∷ []
 testsOn (light (putPc p)) c = []
 testsOn (light (putReg r v)) c = test (ltb r 32) 13 ∷ []

@@ -194,11 +194,15 @@ heapOk base n =
 unfoldable pub slotsOk : ℕ → ℕ → Bool
 slotsOk n spare = Table.slotCount n && eqb spare n
 
--- 9: 'depth above the frames'; 'for a run of non-empty code, a frame in use other than frame 0 whose return isn't below the last word's
--- place'
+-- 9: 'for a run of non-empty code, a frame in use other than frame 0 whose return isn't below the last word's place'. A frame holds the
+-- place of its `Call`
+unfoldable pub returnsOk : ℕ → List ℕ → Bool
+returnsOk zero frames = true
+returnsOk (suc last) frames = below last (drop 1 frames)
+
+-- 9: 'depth above the frames', and the above of the frames in use
 unfoldable pub framesBelong : ℕ → State → Lent → Bool
-framesBelong zero s l = leb (s .depth) (length (l .frames))
-framesBelong (suc last) s l = leb (s .depth) (length (l .frames)) && below last (drop 1 (take (s .depth) (l .frames)))
+framesBelong n s l = leb (s .depth) (length (l .frames)) && returnsOk n (take (s .depth) (l .frames))
 
 -- 9: pages and last page; and of an interning the table. Definitions of the crates below
 unfoldable pub pagesBelong : State → Lent → Bool
