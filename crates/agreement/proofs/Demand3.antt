@@ -8,7 +8,7 @@ use native.Mathlib.Omega.{arith}
 use lib.ListN.{length, set, length-set}
 use lib.Dec.{ltb, eqb}
 use Rattle.vm.specs.Core.{Sizes, Core, Land, used, short, spent, _⊑_, setPc, setLand}
-use Rattle.vm.specs.Image.{Image, failing}
+use Rattle.program.specs.Image.{Image, failing}
 use Rattle.vm.specs.Machine.{Lent, Machine, sizes, view, Light, Host, Call, run, light, host, Answer, ended, value, done, refused, ranOut, Called, Acted, runs, hosted, granted, act, tried, perform, begun, start}
 use Rattle.vm.proofs.Fits.{short-spent, short-up}
 use Rattle.vm.proofs.Runs.{runs-good, CutOn, runs-up}

@@ -9,7 +9,7 @@ use lib.Dec.{lit≤}
 use lib.ListN.{length, replicate}
 use Rattle.string.specs.Sound as Table
 use Rattle.vm.specs.Core.{_⊑_}
-use Rattle.vm.specs.Image.{Image, Tables, rising, tablesOk, imageOk, endsInHalt, below, wordTests, counts, imageTests, failing}
+use Rattle.program.specs.Image.{Image, Tables, rising, tablesOk, imageOk, endsInHalt, below, wordTests, counts, imageTests, failing}
 use Rattle.vm.specs.Machine.{Lent, Machine, sizes, framesOk, heapOk, slotsOk, begun, begin, starts, start}
 use Rattle.agreement.specs.Demand3.{Pair, Agree, Demand3}
 use Rattle.agreement.proofs.Demand3.{demand3}

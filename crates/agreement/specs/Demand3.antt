@@ -5,7 +5,7 @@ use Prim.Native.Nat.{ℕ, _+_}
 use mathlib.Core.Bool.{true, false}
 use mathlib.Core.List.{List, [], _∷_}
 use Rattle.vm.specs.Core.{_⊑_, setPc}
-use Rattle.vm.specs.Image.{Image}
+use Rattle.program.specs.Image.{Image}
 use Rattle.vm.specs.Machine.{Lent, Machine, sizes, view, Call, run, light, host, Answer, ended, value, done, refused, ranOut, perform, begun, start}
 
 -- a call made on both machines, with the same arguments; 'each run is lent an image, .. the same on both machines'. `more` is what the

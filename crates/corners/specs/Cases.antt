@@ -31,9 +31,9 @@ use Rattle.op.specs.Decode as Op
 use Rattle.op.specs.Decode.{decodedBy, decodeOf}
 use Rattle.op.specs.Reach.{checkOf}
 use Rattle.vm.specs.Core.{used, lacking, short, setReg, setPc, setFrames, setLand, setPages, setBytes}
-use Rattle.vm.specs.Image.{Image, Tables, startOf, entriesOf, counts, rising, tablesOk, imageOk, endsInHalt, below, wordTest, wordTests, imageTests, failing}
-use Rattle.vm.specs.Effect.{divided, jumpIf, within, slot, switched, effectOf}
-use Rattle.vm.specs.Run.{provided, forward, addressed, loaded, stored8, returned, took, apply, wordEffect, fetched, unless, limited, step, after, go, root, entered, stored}
+use Rattle.program.specs.Image.{Image, Tables, startOf, entriesOf, counts, rising, tablesOk, imageOk, endsInHalt, below, wordTest, wordTests, imageTests, failing}
+use Rattle.program.specs.Effect.{divided, jumpIf, within, slot, switched, effectOf, wordEffect}
+use Rattle.vm.specs.Run.{provided, forward, addressed, loaded, stored8, returned, took, apply, fetched, unless, limited, step, after, go, root, entered, stored}
 use Rattle.vm.specs.Names as Names
 use Rattle.vm.specs.Machine.{Lent, Machine, sizes, landOf, view, withPages, withNames, traced, withFrames, withRegs, Host, allocate, option, intern, internSmall, Call, run, light, host, Answer, ended, value, done, refused, Called, ran, idle, runs, hosted, lightly, runLeaves, hostLeaves, granted, hostCall, runCall, act, framesOk, heapOk, slotsOk, returnsOk, framesBelong, pagesBelong, namesBelong, smallOk, tests, tried, perform, Started, declined, begun, firstPage, firstLand, blank, begin, starts, start}
 

@@ -12,7 +12,7 @@ use Rattle.anomaly.proofs.Numbers.{both}
 use Rattle.gc.specs.Lent.{pageSize}
 use Rattle.gc.proofs.Soundness.{end-is}
 use Rattle.vm.specs.declared.State.{State}
-use Rattle.vm.specs.Image.{below}
+use Rattle.program.specs.Image.{below}
 use Rattle.vm.specs.Machine.{Lent, framesOk, heapOk, returnsOk, framesBelong}
 
 pub frames-room : (n : ℕ) → framesOk n ≡ true → 1 ≤ n

@@ -8,7 +8,7 @@ use native.Mathlib.Omega.{arith}
 use lib.ListN.{length, set, length-set}
 use lib.Dec.{ltb, eqb}
 use Rattle.vm.specs.Core.{Sizes, Core, Land, used, short, setFrames, setLand, setPages}
-use Rattle.vm.specs.Image.{Image, failing}
+use Rattle.program.specs.Image.{Image, failing}
 use Rattle.vm.specs.Machine.{Machine, landOf, view, withPages, withNames, Light, reset, putPc, putReg, Host, allocate, option, intern, internSmall, Call, run, light, host, Acted, runs, hosted, unset, lightly, runLeaves, hostLeaves, granted, hostCall, runCall, act, tests, tried, perform}
 use Rattle.vm.proofs.Fits.{fits-of}
 use Rattle.vm.proofs.Kept.{Kept, Good, allocates-kept, optional-kept, interned-base}

@@ -18,7 +18,7 @@ use Rattle.op.specs.declared.Checked.{Checked}
 use Rattle.op.specs.declared.Counts.{Counts}
 use Rattle.op.specs.Reach.{checkOf}
 use Rattle.vm.specs.Core.{Core, Sizes, used, short, _⊑_, setFrames}
-use Rattle.vm.specs.Image.{Image, Test, test, imageOk, endsInHalt, below, wordTest, wordTests, counts, imageTests, failing}
+use Rattle.program.specs.Image.{Image, Test, test, imageOk, endsInHalt, below, wordTest, wordTests, counts, imageTests, failing}
 use Rattle.vm.specs.Run.{Step, next, halted, stop, step, Ran, after, go, root, entered}
 use Rattle.vm.specs.Names.{Given}
 use Rattle.vm.specs.Machine.{Lent, Machine, sizes, landOf, view, Call, run, light, host, Host, Answer, ended, value, done, refused, ran, idle, runs, runCall, act, hosted, granted, hostCall, framesOk, heapOk, slotsOk, returnsOk, framesBelong, pagesBelong, tests, tried, perform, Started, declined, begun, starts, start}

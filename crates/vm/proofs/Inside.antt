@@ -23,12 +23,12 @@ use Rattle.op.specs.Decode.{rows, rowOf, decodedBy, decodeOf}
 use Rattle.op.specs.Reach.{reachOf, checkOf}
 use Rattle.op.specs.Operands.{Within}
 use Rattle.op.proofs.Sound.{fine}
-use Rattle.vm.specs.declared.Effect.{Effect}
-use Rattle.vm.specs.declared.Effect.the-variants as effect
+use Rattle.program.specs.declared.Effect.{Effect}
+use Rattle.program.specs.declared.Effect.the-variants as effect
 use Rattle.vm.specs.Core.{Core, Land, Sizes, used, lacking, short, _⊑_, setReg, setPc, setFrames, setLand}
-use Rattle.vm.specs.Image.{Image, startOf, entriesOf, counts, below}
-use Rattle.vm.specs.Effect.{divided, jumpIf, within, switched, effectOf}
-use Rattle.vm.specs.Run.{Step, next, halted, stop, provided, forward, returned, took, apply, wordEffect, fetched, unless, limited, step}
+use Rattle.program.specs.Image.{Image, startOf, entriesOf, counts, below}
+use Rattle.program.specs.Effect.{divided, jumpIf, within, switched, effectOf, wordEffect}
+use Rattle.vm.specs.Run.{Step, next, halted, stop, provided, forward, returned, took, apply, fetched, unless, limited, step}
 use Rattle.vm.proofs.Fits.{fits-of}
 use Rattle.vm.proofs.Kept.{Kept, KeptStep, apply-kept}
 

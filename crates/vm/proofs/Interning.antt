@@ -38,7 +38,7 @@ use Rattle.gc.specs.Lent as Heap
 use Rattle.gc.proofs.Growth.{grow-enough}
 use Rattle.gc.proofs.Soundness.{sound}
 use Rattle.vm.specs.declared.State.{State}
-use Rattle.vm.specs.Image.{failing}
+use Rattle.program.specs.Image.{failing}
 use Rattle.vm.specs.Core.{Land, used, lacking, short, setLand, setPages, setBytes}
 use Rattle.vm.specs.Names.{Given, filled, entered, fresh, known, interned}
 use Rattle.vm.specs.Machine.{Lent, Machine, sizes, landOf, view, Called, value, refused, host, intern, internSmall, withPages, withNames, hosted, hostLeaves, granted, hostCall, act, heapOk, slotsOk, pagesBelong, namesBelong, smallOk, tests, tried, perform}

@@ -12,10 +12,10 @@ use Rattle.string.specs.Hash.{hashOf}
 use Rattle.string.specs.Payload.{payloadOf}
 use Rattle.string.specs.Payload as Strings
 use Rattle.string.specs.Table.{lookup}
-use Rattle.vm.specs.declared.Effect.{Effect}
-use Rattle.vm.specs.declared.Effect.the-variants as effect
+use Rattle.program.specs.declared.Effect.{Effect}
+use Rattle.program.specs.declared.Effect.the-variants as effect
 use Rattle.vm.specs.Core.{Core, Land, Sizes, used, short, setReg, setPc, setFrames, setLand, setPages, setBytes}
-use Rattle.vm.specs.Image.{Image}
+use Rattle.program.specs.Image.{Image}
 use Rattle.vm.specs.Run.{Step, next, halted, stop, provided, forward, stored8, returned, took, apply, unless, limited, step, after, go}
 use Rattle.vm.specs.Names as Names
 use Rattle.vm.proofs.Upward.{go-next, go-halted, go-stop}

@@ -10,8 +10,6 @@ pub mod Buffers
 pub mod Starting
 pub mod Inside
 pub mod Ends
-pub mod Images
-pub mod Asks
 pub mod Replies
 pub mod Boxes
 pub mod Loading

@@ -14,7 +14,7 @@ use Rattle.gc.specs.declared.Alloc.{Alloc}
 use Rattle.gc.specs.Lent.{pageSize, Outcome, outcome, numbersOf}
 use Rattle.op.specs.declared.Checked.{Checked}
 use Rattle.vm.specs.declared.State.{State}
-use Rattle.vm.specs.Image.{Image, test, imageOk, imageTests, failing, verdict}
+use Rattle.program.specs.Image.{Image, test, imageOk, imageTests, failing, verdict}
 use Rattle.vm.specs.Machine.{Lent, Machine, Called, done, refused, traced, withPages, withFrames, unset, framesOk, heapOk, slotsOk, firstLand, blank, begin, starts, start}
 use Rattle.vm.specs.Told.{lentOf, machineOf, startedOn}
 use Rattle.vm.proofs.Refusals.{failing-cons, failing-numbered, image-alone}

@@ -21,7 +21,7 @@ use Rattle.op.specs.Reach.{checkOf}
 use Rattle.op.proofs.Sound.{check-refuses}
 use Rattle.vm.specs.declared.State.{State}
 use Rattle.vm.specs.Core.{Core, Land, Sizes, used, short}
-use Rattle.vm.specs.Image.{Image, Test, test, wordTest, wordTests, counts, imageOk, endsInHalt, below, imageTests, failing}
+use Rattle.program.specs.Image.{Image, Test, test, wordTest, wordTests, counts, imageOk, endsInHalt, below, imageTests, failing}
 use Rattle.vm.specs.Machine.{Lent, Machine, sizes, landOf, view, Light, reset, putPc, putReg, Host, allocate, option, intern, internSmall, Call, run, light, host, framesOk, heapOk, slotsOk, returnsOk, framesBelong, pagesBelong, namesBelong, smallOk, tests}
 use Rattle.vm.specs.Core.{_⊑_, spent}
 use Rattle.vm.proofs.Fits.{fits-of}

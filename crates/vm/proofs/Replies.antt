@@ -18,7 +18,7 @@ use Rattle.gc.proofs.Blocks.{pushed-is}
 use Rattle.gc.proofs.Soundness as Soundness
 use Rattle.op.specs.Layout.{isAlignment}
 use Rattle.vm.specs.declared.State.{State}
-use Rattle.vm.specs.Image.{test, failing}
+use Rattle.program.specs.Image.{test, failing}
 use Rattle.vm.specs.Core.{used, lacking, short, setLand, setPages, setBytes}
 use Rattle.vm.specs.Names.{Given, took, allocates, filled, boxed, optional}
 use Rattle.vm.specs.Machine.{Lent, Machine, sizes, landOf, view, Called, value, done, refused, light, reset, putPc, putReg, host, Host, allocate, option, unset, traced, withPages, withFrames, withRegs, lightly, hosted, hostLeaves, granted, hostCall, act, framesOk, heapOk, pagesBelong, tests, tried, perform}

@@ -8,7 +8,7 @@ use native.Mathlib.Omega.{arith}
 use lib.ListN.{length, set, length-set}
 use lib.Dec.{ltb, eqb}
 use Rattle.vm.specs.Core.{Sizes, Core, used, short, spent, _⊑_, setPc, setFrames}
-use Rattle.vm.specs.Image.{Image}
+use Rattle.program.specs.Image.{Image}
 use Rattle.vm.specs.Run.{Ran, go, root, entered, stored}
 use Rattle.vm.specs.Machine.{Answer, ended, value, done, refused, ranOut, Acted, ran, idle, runs}
 use Rattle.vm.proofs.Upward.{cutOff, up}

@@ -12,7 +12,7 @@ use Rattle.anomaly.proofs.Numbers.{both}
 use Rattle.gc.specs.Pages.{Pages, growOf, gapOf, holds, block, pushed, fitted, allocated}
 use Rattle.gc.specs.Lent.{pageSize, pagesOf, numbersOf}
 use Rattle.vm.specs.Core.{Core, Land, Sizes, used, short, lacking, setFrames, setLand, setPages, setBytes}
-use Rattle.vm.specs.Image.{Image, Test, test, imageOk, imageTests, failing}
+use Rattle.program.specs.Image.{Image, Test, test, imageOk, imageTests, failing}
 use Rattle.vm.specs.Names.{boxed, filled}
 use Rattle.vm.specs.Machine.{Lent, Machine, sizes, landOf, view, Call, run, light, host, Answer, withPages, withFrames, framesOk, heapOk, slotsOk, perform, unset, firstPage, firstLand, blank, begin, starts, start, begun, declined}
 use Rattle.vm.proofs.Fits.{none-of}

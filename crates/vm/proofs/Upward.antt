@@ -8,7 +8,7 @@ use mathlib.Core.Option.{Option, none, some}
 use mathlib.Core.List.{[]}
 use native.Mathlib.Nat.{suc-add}
 use Rattle.vm.specs.Core.{Sizes, Core, used, short}
-use Rattle.vm.specs.Image.{Image}
+use Rattle.program.specs.Image.{Image}
 use Rattle.vm.specs.Run.{Step, next, halted, stop, unless, limited, step, Ran, after, go}
 use Rattle.vm.specs.Core.{_⊑_, spent}
 use Rattle.vm.proofs.Fits.{short-spent, short-up}

@@ -1,7 +1,5 @@
 -- The machine of document 01, defined.
 pub mod Core
-pub mod Image
-pub mod Effect
 pub mod Run
 pub mod Names
 pub mod Machine

@@ -18,7 +18,7 @@ use Rattle.gc.specs.Lent as Heap
 use Rattle.op.specs.Layout.{isAlignment}
 use Rattle.vm.specs.declared.State.{State}
 use Rattle.vm.specs.Core.{Core, Land, Sizes, used, short, spent, setReg, setPc, setFrames, setLand}
-use Rattle.vm.specs.Image.{Image, Test, test, below, imageTests, failing}
+use Rattle.program.specs.Image.{Image, Test, test, below, imageTests, failing}
 use Rattle.vm.specs.Run.{Ran, go, root, entered, stored}
 use Rattle.vm.specs.Names.{Given, allocates, boxed, optional, interned}
 

@@ -10,13 +10,12 @@ use Rattle.memory.specs.Lists.{write}
 use Rattle.string.specs.Payload.{reaches}
 use Rattle.gc.specs.Pages.{Pages, Block, allocated}
 use Rattle.gc.specs.Lent.{pageSize}
-use Rattle.op.specs.declared.Decoded.{Decoded}
 use Rattle.op.specs.Decode.{decodeOf}
-use Rattle.vm.specs.declared.Effect.{Effect}
-use Rattle.vm.specs.declared.Effect.the-variants as effect
+use Rattle.program.specs.declared.Effect.{Effect}
+use Rattle.program.specs.declared.Effect.the-variants as effect
 use Rattle.vm.specs.Core.{Core, Land, Sizes, used, short, setReg, setPc, setFrames, setLand, setPages, setBytes}
-use Rattle.vm.specs.Image.{Image}
-use Rattle.vm.specs.Effect.{effectOf, unlisted}
+use Rattle.program.specs.Image.{Image}
+use Rattle.program.specs.Effect.{unlisted, wordEffect}
 
 -- what an instruction comes to: a further core, a Halt, or an end with the core as it was
 pub data Step : Type 0 where
@@ -64,10 +63,6 @@ apply (effect.Stop e) c = stop e
 apply effect.Halt c = halted
 
 -- the effect of the word at the pc
-unfoldable pub wordEffect : Image → List ℕ → Decoded → Effect
-wordEffect im r (Decoded.Op op) = effectOf im r op
-wordEffect im r (Decoded.Refused k) = effect.Stop unlisted
-
 unfoldable pub fetched : Bool → Image → Core → Effect
 fetched true im c = wordEffect im (c .regs) (decodeOf (getD (im .code) (c .pc) 0))
 fetched false im c = effect.Stop unlisted

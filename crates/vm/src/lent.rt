@@ -3,8 +3,8 @@ ghost use mathlib.Core.Path.{_≡_};
 ghost use Rattle.vm.specs.Machine.{Lent, framesOk, heapOk, slotsOk, framesBelong};
 ghost use Rattle.vm.specs.declared.State.{State};
 ghost use Rattle.string.specs.Sound.{slotCount};
-use crate::image;
 use gc::PAGE_SIZE;
+use program::image;
 
 pub fn frames_ok(frames: usize) -> bool
     ensures { λ r. ⌜ r ≡ framesOk frames ⌝ }

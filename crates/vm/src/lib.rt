@@ -1,4 +1,4 @@
-// The machine: what it keeps between calls, and what an instruction asks for.
+// The machine: what it keeps between calls, and the calls of its host.
 ghost use mathlib.Core.Path.{_≡_};
 ghost use mathlib.Core.List.{List};
 ghost use Prim.Native.Nat.{ℕ};
@@ -7,8 +7,6 @@ ghost use Rattle.gc.specs.Lent.{Sound, outcome, grantedIn};
 ghost use Rattle.vm.specs.Names.{boxed};
 ghost use Rattle.vm.specs.Told.{lentOf, machineOf, told, refusedBy, allocatedIn, blockOf, landIn, optionOf};
 
-mod effects;
-pub mod image;
 pub mod lent;
 pub mod names;
 pub mod start;
@@ -27,24 +25,6 @@ pub struct State {
     pub depth: usize,
     pub gc: Gc,
     pub strings: StrTable,
-}
-
-// What an instruction asks for, once its registers are read.
-pub enum Effect {
-    // register, value
-    Set(usize, u64),
-    Skip,
-    Goto(usize),
-    Call(usize),
-    Ret,
-    // register, base, offset
-    Load(usize, u64, u64),
-    // base, offset, value
-    Store(u64, u64, u64),
-    // register, kind, size
-    Alloc(usize, u64, u64),
-    Stop(u64),
-    Halt,
 }
 
 // What a host's call is answered with.

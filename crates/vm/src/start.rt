@@ -3,7 +3,7 @@ ghost use mathlib.Core.Path.{_≡_};
 ghost use Prim.Native.Nat.{ℕ, _+_, _^_, _≤_};
 ghost use mathlib.Core.List.{List};
 ghost use lib.ListN.{length};
-ghost use Rattle.vm.specs.Image.{tablesOf, imageOf};
+ghost use Rattle.program.specs.Image.{tablesOf, imageOf};
 ghost use Rattle.vm.specs.Machine.{Lent, blank, begin, start};
 ghost use Rattle.vm.specs.Told.{lentOf, machineOf, told, startedOn};
 use crate::Called;
@@ -11,12 +11,12 @@ use crate::Reply;
 use crate::State;
 use crate::UNSET;
 use crate::boxed;
-use crate::image;
 use crate::lent;
 use anomaly::Refusal;
 use gc::Alloc;
 use gc::Gc;
 use op::Checked;
+use program::image;
 use string::table::StrTable;
 
 // A state that has nothing in use.

@@ -1,0 +1,3 @@
+-- The laws of an image's tests, and of what an instruction asks for.
+pub mod Images
+pub mod Asks

@@ -1,0 +1,18 @@
+-- `vm::effects::global` meets its contract. Assumes nothing.
+use Rattle.program.proofs.Asks.{inside, outside}
+use borrow.Author.Needs.{needs}
+use Rattle.program.proofs.effects.global.Statement.{statement}
+use Rattle.program.proofs.effects.global.Tie as tie
+
+returns : tie.Need-returns
+returns c =
+    let if1 = c .before in
+    inside _ _ _ (if1 .if1 .taken)
+
+returns-2 : tie.Need-returns-2
+returns-2 c = outside _ _ _ (c .if1 .left)
+
+pub global-spec : {M : Type 1} → statement M
+global-spec =
+    tie.close
+    (tie.spec (λ c. search needs) (λ c. search needs) returns returns-2)

@@ -1,0 +1,17 @@
+-- `vm::effects::jump_if` meets its contract. Assumes nothing.
+use Rattle.program.specs.Effect.{jumpIf}
+use Rattle.program.proofs.effects.jump_if.Statement.{statement}
+use Rattle.program.proofs.effects.jump_if.Tie as tie
+
+returns : tie.Need-returns
+unfolding jumpIf
+returns c = rw (c .if1 .taken)
+
+returns-2 : tie.Need-returns-2
+unfolding jumpIf
+returns-2 c = rw (c .if1 .left)
+
+pub jump-if-spec : {M : Type 1} → statement M
+jump-if-spec =
+    tie.close
+    (tie.spec returns returns-2)

@@ -1,0 +1,3 @@
+-- An image as it is lent, and the meaning of its instructions.
+pub mod Image
+pub mod Effect

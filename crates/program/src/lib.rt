@@ -1,0 +1,21 @@
+// What a machine is lent to run: an image, what is refused of it, and what its instructions ask for.
+pub mod effects;
+pub mod image;
+
+// What an instruction asks for, once its registers are read.
+pub enum Effect {
+    // register, value
+    Set(usize, u64),
+    Skip,
+    Goto(usize),
+    Call(usize),
+    Ret,
+    // register, base, offset
+    Load(usize, u64, u64),
+    // base, offset, value
+    Store(u64, u64, u64),
+    // register, kind, size
+    Alloc(usize, u64, u64),
+    Stop(u64),
+    Halt,
+}
