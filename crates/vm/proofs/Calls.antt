@@ -9,7 +9,7 @@ use lib.ListN.{length, set, length-set}
 use lib.Dec.{ltb, eqb}
 use Rattle.vm.specs.Core.{Sizes, Core, Land, used, short, setFrames, setLand, setPages}
 use Rattle.program.specs.Image.{Image, failing}
-use Rattle.vm.specs.Machine.{Machine, landOf, view, withPages, withNames, Light, reset, putPc, putReg, Host, allocate, option, intern, internSmall, Call, run, light, host, Acted, runs, hosted, unset, lightly, runLeaves, hostLeaves, granted, hostCall, runCall, act, tests, tried, perform}
+use Rattle.vm.specs.Machine.{Machine, landOf, view, withPages, withNames, Light, reset, putPc, putReg, Host, allocate, option, intern, internSmall, Call, run, light, host, Acted, runs, hosted, unset, lightly, laid, runLeaves, hostLeaves, granted, hostCall, runCall, act, tests, tried, perform}
 use Rattle.vm.proofs.Fits.{fits-of}
 use Rattle.vm.proofs.Kept.{Kept, Good, allocates-kept, optional-kept, interned-base}
 use Rattle.vm.proofs.Holds.{Holds, holds-pages, holds-names, holds-frames, holds-regs}
@@ -28,7 +28,7 @@ lighted (putReg r v) c = record { regs = set (c .regs) r v; pc = c .pc; frames =
 module _ (n : Sizes) (c : Core) (m : Machine) (h : Holds n c m) where
   -- a run
   pub holds-run : (a : Acted) → Good n c (a .core) → Holds n (a .core) (runLeaves m a)
-  unfolding runLeaves setFrames setLand used
+  unfolding runLeaves laid setFrames setLand used
   holds-run a g =
       let f = fits-of n (used (a .core)) (g .1) in
       let pages = holds-pages n c m h (a .core .land .pages) (g .0 .base) (f .heap) in

@@ -22,12 +22,13 @@ use Rattle.program.specs.Image.{Image, Test, test, imageOk, endsInHalt, below, 
 use Rattle.vm.specs.Run.{Step, next, halted, stop, step, Ran, after, go, root, entered}
 use Rattle.vm.specs.Names.{Given}
 use Rattle.vm.specs.Machine.{Lent, Machine, sizes, landOf, view, Call, run, light, host, Host, Answer, ended, value, done, refused, ran, idle, runs, runCall, act, hosted, granted, hostCall, framesOk, heapOk, slotsOk, returnsOk, framesBelong, pagesBelong, tests, tried, perform, Started, declined, begun, starts, start}
-use Rattle.vm.proofs.Fits.{fits-of, none-of, take-fits}
+use Rattle.vm.proofs.Fits.{fits-of, view-fits}
 use Rattle.vm.proofs.Refusals.{failing-cons, failing-numbered, image-alone, call-numbered}
 use Rattle.vm.proofs.Upward.{go-next, go-halted, go-stop}
 use Rattle.vm.proofs.Kept.{GoodStep, step-good}
 use Rattle.vm.proofs.Runs.{runs-go, runs-past}
-use Rattle.vm.proofs.Inside.{Checks, Returns, Inside, StepOk, step-ok}
+use Rattle.vm.specs.Loop.{Checks, Returns}
+use Rattle.vm.proofs.Inside.{Inside, StepOk, step-ok}
 
 -- an end with these steps under the budget b: 0 to 8, and 5 just when the budget is completed
 pub record Listed (b e steps : ℕ) : Type 0 where
@@ -68,7 +69,7 @@ module _ (L : Sizes) (im : Image) (k : Checks im) where
   listed-suc b c halted p g o ih = rw (go-halted L im b c p) (record { number = omega arith; within = omega arith; spends = λ q. absurd (omega arith) })
   listed-suc b c (stop e) p g o ih = rw (go-stop L im b c e p) (stop-listed (suc b) e o)
 
-  go-listed : (b : ℕ) (c : Core) → GoListed b c
+  pub go-listed : (b : ℕ) (c : Core) → GoListed b c
   unfolding go
   go-listed zero c f i = record { number = omega arith; within = omega arith; spends = λ q. refl }
   go-listed (suc b) c f i =
@@ -120,6 +121,10 @@ entered-returns : (last : ℕ) (fs : List ℕ) → last < 65536 → below last (
 entered-returns last [] b h = tt
 entered-returns last (f ∷ fs) b h = (root-returns last b, returns-of last fs h)
 
+pub code-size : (im : Image) → imageOk im ≡ true → length (im .code) ≤ 65536
+unfolding imageOk
+code-size im h = leb-true _ _ (both (leb (length (im .code)) 65536) _ h .0)
+
 -- ---- the whole call
 
 module _ (im : Image) (b : ℕ) (m : Machine) (passed : failing (tests (run im b) (m .state) (m .lent)) ≡ none) where
@@ -128,56 +133,44 @@ module _ (im : Image) (b : ℕ) (m : Machine) (passed : failing (tests (run im b
 
   -- 10, 11, 16, the words, and 9, each passed
   pub record Passed : Type 0 where
-    pub size : length (im .code) ≤ 65536
+    pub lent : (framesOk (length (m .lent .frames)) && heapOk (m .state .gc .base) (length (m .lent .heap))) ≡ true
+    pub image : imageOk im ≡ true
     pub halts : endsInHalt (im .code) ≡ true
     pub targets : below (length (im .code)) (im .switches .entries) ≡ true
     pub words : (i : ℕ) → i < length (im .code) → checkOf (counts im) (getD (im .code) i 0) ≡ Checked.Fine
     pub frames : framesBelong (length (im .code)) (m .state) (m .lent) ≡ true
+    pub pages : pagesBelong (m .state) (m .lent) ≡ true
 
-  all-passed : Passed
-  unfolding tests imageTests imageOk
+  pub all-passed : Passed
+  unfolding tests imageTests
   all-passed =
       let size = failing-cons (test ((framesOk (length (m .lent .frames)) && heapOk (m .state .gc .base) (length (m .lent .heap))) && imageOk im) 10) _ passed in
       let halts = failing-cons (test _ 11) _ (size .1) in
       let targets = failing-cons (test _ 16) _ (halts .1) in
       let words = words-fine (counts im) (im .code) rest (targets .1) in
       let state = failing-cons (test _ 9) [] (words .1) in
-      record {
-        size = leb-true _ _ (both (leb (length (im .code)) 65536) _ (both (framesOk (length (m .lent .frames)) && heapOk (m .state .gc .base) (length (m .lent .heap))) (imageOk im) (size .0) .1) .0);
-        halts = halts .0;
-        targets = targets .0;
-        words = words .0;
-        frames = both (framesBelong (length (im .code)) (m .state) (m .lent)) (pagesBelong (m .state) (m .lent)) (state .0) .0;
-      }
-
-  fits : (c : Core) → length (c .frames) ≡ length (view m .frames) → c .land ≡ view m .land → short (sizes (m .lent)) (used c) ≡ none
-  unfolding used view sizes landOf pagesOf
-  fits c e l =
-      none-of _ _
-      (record {
-        frames = rw e (take-fits (m .state .depth) (m .lent .frames));
-        heap = rw l (take-fits (m .state .gc .pushed) (m .lent .heap));
-        slots = rw l (take-fits (m .state .strings .active) (m .lent .slots));
-      })
+      let sizes = both (framesOk (length (m .lent .frames)) && heapOk (m .state .gc .base) (length (m .lent .heap))) (imageOk im) (size .0) in
+      let belongs = both (framesBelong (length (im .code)) (m .state) (m .lent)) (pagesBelong (m .state) (m .lent)) (state .0) in
+      record { lent = sizes .0; image = sizes .1; halts = halts .0; targets = targets .0; words = words .0; frames = belongs .0; pages = belongs .1 }
 
   -- from a pc inside the code of suc last words
-  from-inside : (last : ℕ) → length (im .code) ≡ suc last → m .state .pc < suc last → Inside (length (im .code)) (entered (suc last) (view m))
+  pub from-inside : (last : ℕ) → length (im .code) ≡ suc last → m .state .pc < suc last → Inside (length (im .code)) (entered (suc last) (view m))
   unfolding entered setFrames view framesBelong returnsOk
   from-inside last e l =
       let p = all-passed in
-      let s : suc last ≤ 65536 = rw (← e) (p .size) in
+      let s : suc last ≤ 65536 = rw (← e) (code-size im (p .image)) in
       let frames : framesBelong (suc last) (m .state) (m .lent) ≡ true = subst (λ (n : ℕ). framesBelong n (m .state) (m .lent) ≡ true) e (p .frames) in
       let back = both (leb (m .state .depth) (length (m .lent .frames))) _ frames .1 in
       rw e (record { here = l; returns = entered-returns last (take (m .state .depth) (m .lent .frames)) s back })
 
-  checks : 0 < length (im .code) → Checks im
+  pub checks : 0 < length (im .code) → Checks im
   checks l = let p = all-passed in record { targets = p .targets; words = p .words; ends = ends-at (im .code) l (p .halts) }
 
   ends-case : (last : ℕ) (t : Bool) → length (im .code) ≡ suc last → ltb (m .state .pc) (suc last) ≡ t → RunAnswer b (runs (sizes (m .lent)) im b (suc last) (view m) .answer)
   unfolding ran idle entered setFrames view
   ends-case last true e t =
       let c = entered (suc last) (view m) in
-      let fit = fits c (length-set (view m .frames) 0 (root (suc last))) refl in
+      let fit = view-fits m c (length-set (view m .frames) 0 (root (suc last))) refl in
       rw (runs-go (sizes (m .lent)) im b last (view m) t)
       (go-listed (sizes (m .lent)) im (checks (omega arith)) b c fit (from-inside last e (ltb-true _ _ t)))
   ends-case last false e t = rw (runs-past (sizes (m .lent)) im b last (view m) t) (nothing-done b)

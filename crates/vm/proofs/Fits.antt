@@ -8,7 +8,9 @@ use mathlib.Core.Option.{Option, none, some}
 use native.Mathlib.Omega.{arith}
 use lib.Dec.{leb}
 use borrow.Author.Tests.{leb-true, le-leb}
-use Rattle.vm.specs.Core.{Sizes, lacking, short}
+use Rattle.gc.specs.Lent.{pagesOf}
+use Rattle.vm.specs.Core.{Core, Sizes, used, lacking, short}
+use Rattle.vm.specs.Machine.{Machine, sizes, landOf, view}
 use Rattle.vm.specs.Core.{_⊑_, spent}
 
 lacking-none : (a b c : Bool) → lacking a b c ≡ none → (a ≡ true) × (b ≡ true) × (c ≡ true)
@@ -48,3 +50,14 @@ pub take-fits : (n : ℕ) (l : List ℕ) → length (take n l) ≤ length l
 take-fits zero l = omega arith
 take-fits (suc n) [] = omega arith
 take-fits (suc n) (x ∷ l) = let h = take-fits n l in omega arith
+
+-- a core that uses of each buffer what the machine does
+pub view-fits : (m : Machine) (c : Core) → length (c .frames) ≡ length (view m .frames) → c .land ≡ view m .land → short (sizes (m .lent)) (used c) ≡ none
+unfolding used view sizes landOf pagesOf
+view-fits m c e l =
+    none-of _ _
+    (record {
+      frames = rw e (take-fits (m .state .depth) (m .lent .frames));
+      heap = rw l (take-fits (m .state .gc .pushed) (m .lent .heap));
+      slots = rw l (take-fits (m .state .strings .active) (m .lent .slots));
+    })

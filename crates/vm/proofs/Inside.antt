@@ -21,7 +21,7 @@ use Rattle.op.specs.declared.Checked.{Checked}
 use Rattle.op.specs.Layout.{partsOf, passes, unused}
 use Rattle.op.specs.Decode.{rows, rowOf, decodedBy, decodeOf}
 use Rattle.op.specs.Reach.{reachOf, checkOf}
-use Rattle.op.specs.Operands.{Within}
+use Rattle.op.specs.Operands.{okOp, Within}
 use Rattle.op.proofs.Sound.{fine}
 use Rattle.program.specs.declared.Effect.{Effect}
 use Rattle.program.specs.declared.Effect.the-variants as effect
@@ -29,21 +29,23 @@ use Rattle.vm.specs.Core.{Core, Land, Sizes, used, lacking, short, _⊑_
 use Rattle.program.specs.Image.{Image, startOf, entriesOf, counts, below}
 use Rattle.program.specs.Effect.{divided, jumpIf, within, switched, effectOf, wordEffect}
 use Rattle.vm.specs.Run.{Step, next, halted, stop, provided, forward, returned, took, apply, fetched, unless, limited, step}
+use Rattle.vm.specs.Loop.{Checks, Returns, Writable}
 use Rattle.vm.proofs.Fits.{fits-of}
 use Rattle.vm.proofs.Kept.{Kept, KeptStep, apply-kept}
 
 -- ---- effects
 
--- an effect of an instruction on code of n words
+-- an effect of an instruction on code of n words: it writes to a register that is there, goes on inside the code, and stops with a listed
+-- number
 abbrev pub EffectOk : ℕ → Effect → Type 0
-EffectOk n (effect.Set dst v) = Unit {0}
+EffectOk n (effect.Set dst v) = dst < 32
 EffectOk n effect.Skip = Unit {0}
 EffectOk n (effect.Goto target) = target < n
 EffectOk n (effect.Call func) = func < n
 EffectOk n effect.Ret = Unit {0}
-EffectOk n (effect.Load dst base offset) = Unit {0}
+EffectOk n (effect.Load dst base offset) = dst < 32
 EffectOk n (effect.Store base offset v) = Unit {0}
-EffectOk n (effect.Alloc dst kind size) = Unit {0}
+EffectOk n (effect.Alloc dst kind size) = (dst < 32) × (kind < 4)
 EffectOk n (effect.Stop e) = isAnomaly e ≡ true
 EffectOk n effect.Halt = Unit {0}
 
@@ -55,11 +57,11 @@ jump-ok : (n : ℕ) (b : Bool) (target : ℕ) → target < n → EffectOk n (jum
 unfolding jumpIf
 jump-ok n b target h = either n b _ _ (λ e. h) (λ e. tt)
 
-divided-ok : (n dst : ℕ) (d : Divided) → EffectOk n (divided dst d)
+divided-ok : (n dst : ℕ) (d : Divided) → dst < 32 → EffectOk n (divided dst d)
 unfolding divided
-divided-ok n dst (Exact v) = tt
-divided-ok n dst ByZero = refl
-divided-ok n dst Overflow = refl
+divided-ok n dst (Exact v) o = o
+divided-ok n dst ByZero o = refl
+divided-ok n dst Overflow o = refl
 
 -- a read at a place that is there
 within-ok : (n i k : ℕ) (e : Effect) → i < k → EffectOk n e → EffectOk n (within i k e)
@@ -104,71 +106,77 @@ entries-ok n im k h =
     let from = startOf (im .switches .ends) k in
     below-take n (getD (im .switches .ends) k 0 - from) (drop from (im .switches .entries)) (below-drop n from (im .switches .entries) h)
 
-effect-ok : (im : Image) (r : List ℕ) (op : Op) → below (length (im .code)) (im .switches .entries) ≡ true → Within (counts im) (reachOf op) → EffectOk (length (im .code)) (effectOf im r op)
+effect-ok : (im : Image) (r : List ℕ) (op : Op) → below (length (im .code)) (im .switches .entries) ≡ true → okOp op → Within (counts im) (reachOf op) → EffectOk (length (im .code)) (effectOf im r op)
 unfolding effectOf counts
-effect-ok im r (IAdd dst lhs rhs) t h = tt
-effect-ok im r (IAddI dst lhs imm) t h = tt
-effect-ok im r (ISub dst lhs rhs) t h = tt
-effect-ok im r (ISubI dst lhs imm) t h = tt
-effect-ok im r (IMul dst lhs rhs) t h = tt
-effect-ok im r (IMulI dst lhs imm) t h = tt
-effect-ok im r (IDiv dst lhs rhs) t h = divided-ok _ dst _
-effect-ok im r (IDivI dst lhs imm) t h = divided-ok _ dst _
-effect-ok im r (IMod dst lhs rhs) t h = divided-ok _ dst _
-effect-ok im r (IModI dst lhs imm) t h = divided-ok _ dst _
-effect-ok im r (IAnd dst lhs rhs) t h = tt
-effect-ok im r (IAndI dst lhs imm) t h = tt
-effect-ok im r (ILt dst lhs rhs) t h = tt
-effect-ok im r (IGt dst lhs rhs) t h = tt
-effect-ok im r (IEq dst lhs rhs) t h = tt
-effect-ok im r (IEqI dst lhs imm) t h = tt
-effect-ok im r (IGtI dst lhs imm) t h = tt
-effect-ok im r (ILtI dst lhs imm) t h = tt
-effect-ok im r (DAdd dst lhs rhs) t h = tt
-effect-ok im r (DSub dst lhs rhs) t h = tt
-effect-ok im r (DMul dst lhs rhs) t h = tt
-effect-ok im r (DDiv dst lhs rhs) t h = tt
-effect-ok im r (DLt dst lhs rhs) t h = tt
-effect-ok im r (DGt dst lhs rhs) t h = tt
-effect-ok im r (BEq dst lhs rhs) t h = tt
-effect-ok im r (SEq dst lhs rhs) t h = tt
-effect-ok im r (Mov dst src) t h = tt
-effect-ok im r (LoadI dst value) t h = tt
-effect-ok im r (LoadG dst idx) t h = within-ok _ idx _ _ h tt
-effect-ok im r (Jmp target) t h = h
-effect-ok im r (JmpT c target) t h = jump-ok _ _ target h
-effect-ok im r (JmpF c target) t h = jump-ok _ _ target h
-effect-ok im r (JmpEqI lhs imm target) t h = jump-ok _ _ target h
-effect-ok im r (JmpNeI lhs imm target) t h = jump-ok _ _ target h
-effect-ok im r (JmpSEq lhs rhs target) t h = jump-ok _ _ target h
-effect-ok im r (JmpSNe lhs rhs target) t h = jump-ok _ _ target h
-effect-ok im r (Switch kind subject table) t h = within-ok _ table _ _ h (switched-ok _ _ _ (entries-ok _ im table t))
-effect-ok im r (Lookup kind dst subject table) t h = within-ok _ table _ _ h tt
-effect-ok im r (Tail func) t h = h
-effect-ok im r (Call func) t h = h
-effect-ok im r (CastToInt dst src) t h = tt
-effect-ok im r (CastToDouble dst src) t h = tt
-effect-ok im r (CastToBool dst src) t h = tt
-effect-ok im r (Alloc dst kind size align) t h = tt
-effect-ok im r (Store base offset src) t h = tt
-effect-ok im r (Load dst base offset) t h = tt
-effect-ok im r (AddrOf dst base offset) t h = tt
-effect-ok im r Ret t h = tt
-effect-ok im r (Assert c) t h = either _ (truth (getD r c 0)) _ _ (λ e. tt) (λ e. refl)
-effect-ok im r Halt t h = tt
-effect-ok im r Nop t h = tt
+effect-ok im r (IAdd dst lhs rhs) t o h = o .0
+effect-ok im r (IAddI dst lhs imm) t o h = o .0
+effect-ok im r (ISub dst lhs rhs) t o h = o .0
+effect-ok im r (ISubI dst lhs imm) t o h = o .0
+effect-ok im r (IMul dst lhs rhs) t o h = o .0
+effect-ok im r (IMulI dst lhs imm) t o h = o .0
+effect-ok im r (IDiv dst lhs rhs) t o h = divided-ok _ dst _ (o .0)
+effect-ok im r (IDivI dst lhs imm) t o h = divided-ok _ dst _ (o .0)
+effect-ok im r (IMod dst lhs rhs) t o h = divided-ok _ dst _ (o .0)
+effect-ok im r (IModI dst lhs imm) t o h = divided-ok _ dst _ (o .0)
+effect-ok im r (IAnd dst lhs rhs) t o h = o .0
+effect-ok im r (IAndI dst lhs imm) t o h = o .0
+effect-ok im r (ILt dst lhs rhs) t o h = o .0
+effect-ok im r (IGt dst lhs rhs) t o h = o .0
+effect-ok im r (IEq dst lhs rhs) t o h = o .0
+effect-ok im r (IEqI dst lhs imm) t o h = o .0
+effect-ok im r (IGtI dst lhs imm) t o h = o .0
+effect-ok im r (ILtI dst lhs imm) t o h = o .0
+effect-ok im r (DAdd dst lhs rhs) t o h = o .0
+effect-ok im r (DSub dst lhs rhs) t o h = o .0
+effect-ok im r (DMul dst lhs rhs) t o h = o .0
+effect-ok im r (DDiv dst lhs rhs) t o h = o .0
+effect-ok im r (DLt dst lhs rhs) t o h = o .0
+effect-ok im r (DGt dst lhs rhs) t o h = o .0
+effect-ok im r (BEq dst lhs rhs) t o h = o .0
+effect-ok im r (SEq dst lhs rhs) t o h = o .0
+effect-ok im r (Mov dst src) t o h = o .0
+effect-ok im r (LoadI dst value) t o h = o
+effect-ok im r (LoadG dst idx) t o h = within-ok _ idx _ _ h (o .0)
+effect-ok im r (Jmp target) t o h = h
+effect-ok im r (JmpT c target) t o h = jump-ok _ _ target h
+effect-ok im r (JmpF c target) t o h = jump-ok _ _ target h
+effect-ok im r (JmpEqI lhs imm target) t o h = jump-ok _ _ target h
+effect-ok im r (JmpNeI lhs imm target) t o h = jump-ok _ _ target h
+effect-ok im r (JmpSEq lhs rhs target) t o h = jump-ok _ _ target h
+effect-ok im r (JmpSNe lhs rhs target) t o h = jump-ok _ _ target h
+effect-ok im r (Switch kind subject table) t o h = within-ok _ table _ _ h (switched-ok _ _ _ (entries-ok _ im table t))
+effect-ok im r (Lookup kind dst subject table) t o h = within-ok _ table _ _ h (o .1)
+effect-ok im r (Tail func) t o h = h
+effect-ok im r (Call func) t o h = h
+effect-ok im r (CastToInt dst src) t o h = o .0
+effect-ok im r (CastToDouble dst src) t o h = o .0
+effect-ok im r (CastToBool dst src) t o h = o .0
+effect-ok im r (Alloc dst kind size align) t o h = (o .0, o .1)
+effect-ok im r (Store base offset src) t o h = tt
+effect-ok im r (Load dst base offset) t o h = o .0
+effect-ok im r (AddrOf dst base offset) t o h = o .0
+effect-ok im r Ret t o h = tt
+effect-ok im r (Assert c) t o h = either _ (truth (getD r c 0)) _ _ (λ e. tt) (λ e. refl)
+effect-ok im r Halt t o h = tt
+effect-ok im r Nop t o h = tt
+
+pub writable : (n : ℕ) (e : Effect) → EffectOk n e → Writable e
+writable n (effect.Set dst v) o = o
+writable n effect.Skip o = tt
+writable n (effect.Goto target) o = tt
+writable n (effect.Call func) o = tt
+writable n effect.Ret o = tt
+writable n (effect.Load dst base offset) o = o
+writable n (effect.Store base offset v) o = tt
+writable n (effect.Alloc dst kind size) o = o
+writable n (effect.Stop e) o = tt
+writable n effect.Halt o = tt
 
 -- ---- the word at the pc
 
--- an image whose tests have passed, of n words
-pub record Checks (im : Image) : Type 0 where
-  pub targets : below (length (im .code)) (im .switches .entries) ≡ true
-  pub words : (i : ℕ) → i < length (im .code) → checkOf (counts im) (getD (im .code) i 0) ≡ Checked.Fine
-  pub ends : getD (im .code) (length (im .code) - 1) 0 % 256 ≡ 59
-
-word-ok : (im : Image) (r : List ℕ) (w : ℕ) → Checks im → checkOf (counts im) w ≡ Checked.Fine → EffectOk (length (im .code)) (wordEffect im r (decodeOf w))
+pub word-ok : (im : Image) (r : List ℕ) (w : ℕ) → Checks im → checkOf (counts im) w ≡ Checked.Fine → EffectOk (length (im .code)) (wordEffect im r (decodeOf w))
 unfolding wordEffect
-word-ok im r w k h = let runs = fine (counts im) w h in rw (runs .decodes) (effect-ok im r (runs .op) (k .targets) (runs .there))
+word-ok im r w k h = let runs = fine (counts im) w h in rw (runs .decodes) (effect-ok im r (runs .op) (k .targets) (runs .ok) (runs .there))
 
 only-halt : (b : Bool) (op : Op) → _≡_ {A = Decoded} (cond b (Decoded.Op Halt) (Decoded.Refused 13)) (Decoded.Op op) → op ≡ Halt
 only-halt true op e = cc
@@ -187,11 +195,6 @@ unfolding wordEffect effectOf
 halt-effect im r w h e = let runs = fine (counts im) w h in rw (runs .decodes, halt-word w (runs .op) e (runs .decodes)) refl
 
 -- ---- a core inside the code
-
--- a return leads into code of n words
-abbrev pub Returns : ℕ → List ℕ → Type 0
-Returns n [] = Unit {0}
-Returns n (f ∷ fs) = ((f + 1) % 2 ^ 64 < n) × Returns n fs
 
 returns-append : (n : ℕ) (fs : List ℕ) (f : ℕ) → Returns n fs → (f + 1) % 2 ^ 64 < n → Returns n (fs ++ (f ∷ []))
 returns-append n [] f h k = (k, tt)

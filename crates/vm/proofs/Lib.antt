@@ -14,3 +14,7 @@ pub mod Replies
 pub mod Boxes
 pub mod Loading
 pub mod Interning
+pub mod Grows
+pub mod Turns
+pub mod Loops
+pub mod Entering

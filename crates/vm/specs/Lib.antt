@@ -5,3 +5,4 @@ pub mod Names
 pub mod Machine
 pub mod Told
 pub mod Interned
+pub mod Loop

@@ -77,6 +77,10 @@ withFrames trail frames m =
 unfoldable pub withRegs : List ℕ → ℕ → Machine → Machine
 withRegs regs pc m = record { state = record { regs = regs; pc = pc; depth = m .state .depth; gc = m .state .gc; strings = m .state .strings }; lent = m .lent }
 
+-- all of these but the names, which a run leaves alone
+unfoldable pub laid : List (List ℕ) → Core → Machine → Machine
+laid trail c m = withRegs (c .regs) (c .pc) (withFrames trail (c .frames) (withPages (c .land .pages) m))
+
 -- ---- the calls
 
 -- calls on the state and frame 0 alone
@@ -151,7 +155,7 @@ lightly (putReg r v) m = withRegs (set (m .state .regs) r v) (m .state .pc) m
 
 -- a run leaves registers, pc, frames and pages; a host call the pages, and an interning the names too
 unfoldable pub runLeaves : Machine → Acted → Machine
-runLeaves m a = withRegs (a .core .regs) (a .core .pc) (withFrames (a .trail) (a .core .frames) (withPages (a .core .land .pages) m))
+runLeaves m a = laid (a .trail) (a .core) m
 
 unfoldable pub hostLeaves : Host → Machine → Land → Machine
 hostLeaves (allocate kind align n) m l = withPages (l .pages) m

@@ -9,6 +9,7 @@ ghost use Rattle.vm.specs.Told.{lentOf, machineOf, told, refusedBy, allo
 
 pub mod lent;
 pub mod names;
+pub mod run;
 pub mod start;
 
 use anomaly::Refusal;
