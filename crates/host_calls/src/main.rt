@@ -1,0 +1,292 @@
+// Each of the machine's calls, with a refused one of each number from 9 to 18, printed: a label, and what was answered.
+use anomaly::End;
+use libc::STDOUT_FILENO;
+use vm::Called;
+use vm::Opt;
+use vm::Reply;
+use vm::State;
+use vm::run::Ran;
+use vm::start;
+
+const BASE: u64 = 65536;
+
+fn number(text: &[u8], n: u64, digits: usize) {
+    io::write_all(STDOUT_FILENO, text);
+    io::print_hex(STDOUT_FILENO, n, digits);
+}
+
+// A call's reply; and the state, for the next call.
+fn said(label: &[u8], called: Called) -> State {
+    io::write_all(STDOUT_FILENO, label);
+    let reply = called.reply;
+    match reply {
+        Reply::Value(v) => number(b": value ", v, 16),
+        Reply::Done => {
+            io::write_all(STDOUT_FILENO, b": done");
+        }
+        Reply::Refused(why) => number(b": refused ", why.number(), 2),
+    }
+    io::write_all(STDOUT_FILENO, b"\n");
+    called.state
+}
+
+fn ended(label: &[u8], ran: Ran) -> State {
+    io::write_all(STDOUT_FILENO, label);
+    let end = ran.end;
+    match end {
+        End::Refused(why) => number(b": refused ", why.number(), 2),
+        End::Halt { .. } | End::Budget { .. } | End::Stopped(_) => {
+            number(b": end ", end.number(), 2);
+            number(b" at ", end.pc() as u64, 16);
+            number(b" after ", end.steps() as u64, 8);
+        }
+    }
+    io::write_all(STDOUT_FILENO, b"\n");
+    ran.state
+}
+
+fn registers(state: State) {
+    let regs = state.regs;
+    number(b"  r0 ", regs[0], 16);
+    number(b", r1 ", regs[1], 16);
+    number(b", pc ", state.pc as u64, 16);
+    number(b", depth ", state.depth as u64, 4);
+    io::write_all(STDOUT_FILENO, b"\n");
+}
+
+// A run of code that has no globals and no tables.
+fn run(
+    label: &[u8],
+    state: State,
+    budget: u32,
+    code: &[u64],
+    frames: &mut [u64],
+    heap: &mut [u8],
+) -> State {
+    let none: [u64; 0] = [];
+    let ran = state.run(
+        budget,
+        code,
+        &none,
+        &none,
+        &none,
+        &none,
+        &none,
+        &none,
+        &none,
+        &none,
+        frames,
+        heap,
+    );
+    ended(label, ran)
+}
+
+// LoadI r0, 7; IAddI r1, r0, -1; Halt
+fn runs(state: State, frames: &mut [u64; 4], heap: &mut [u8; 8192]) -> State {
+    let code: [u64; 3] = [0x0000_0007_0000_001b, 0xffff_ffff_0000_0101, 59];
+    let s = run(b"run", state, 10, &code, frames, heap);
+    registers(s);
+    let s = run(b"run from the Halt on", s, 10, &code, frames, heap);
+    let s = run(b"run with budget 0", s.set_pc(0), 0, &code, frames, heap);
+    let s = run(
+        b"run with budget 2",
+        s.set_register(0, 1).state,
+        2,
+        &code,
+        frames,
+        heap,
+    );
+    registers(s);
+    // IDiv r1, r0, r2; Halt
+    let stops: [u64; 2] = [0x0000_0000_0200_0106, 59];
+    let s = run(
+        b"run that divides by zero",
+        s.set_pc(0),
+        10,
+        &stops,
+        frames,
+        heap,
+    );
+    registers(s);
+    let s = said(b"reset", s.reset(frames));
+    registers(s);
+    run(b"run after reset", s, 10, &code, frames, heap)
+}
+
+// What a run refuses, in the order of the numbers: of state and buffers, then of the image.
+fn refused_runs(state: State, frames: &mut [u64; 4], heap: &mut [u8; 8192]) -> State {
+    let halt: [u64; 1] = [59];
+    let mut deep = state;
+    deep.depth = frames.len() + 1;
+    run(
+        b"run at a depth above the frames",
+        deep,
+        1,
+        &halt,
+        frames,
+        heap,
+    );
+    run(b"run with no heap", state, 1, &halt, frames, &mut []);
+    let nop: [u64; 1] = [60];
+    run(b"run of code without a Halt", state, 1, &nop, frames, heap);
+    let push: [u64; 2] = [42, 59];
+    run(
+        b"run of an opcode that is not carried",
+        state,
+        1,
+        &push,
+        frames,
+        heap,
+    );
+    let register: [u64; 2] = [0x0000_0000_0000_201a, 59];
+    run(
+        b"run of a word with register 32",
+        state,
+        1,
+        &register,
+        frames,
+        heap,
+    );
+    let jump: [u64; 2] = [0x0000_0000_0002_001d, 59];
+    run(
+        b"run of a jump past the code",
+        state,
+        1,
+        &jump,
+        frames,
+        heap,
+    );
+    let global: [u64; 2] = [0x0000_0000_0000_001c, 59];
+    run(
+        b"run of a global that is not there",
+        state,
+        1,
+        &global,
+        frames,
+        heap,
+    );
+    let none: [u64; 0] = [];
+    let one: [u64; 1] = [1];
+    let ran = state.run(
+        1,
+        &halt,
+        &none,
+        &one,
+        &one,
+        &one,
+        &none,
+        &none,
+        &none,
+        &none,
+        frames,
+        heap,
+    );
+    ended(b"run with a table's target past the code", ran)
+}
+
+fn blocks(state: State, heap: &mut [u8; 8192]) -> State {
+    let s = said(b"allocate 40 bytes", state.allocate(1, 8, 40, heap));
+    let s = said(
+        b"allocate with an alignment of 3",
+        s.allocate(1, 3, 40, heap),
+    );
+    let s = said(b"allocate 2^20 bytes", s.allocate(1, 8, 1048576, heap));
+    let s = said(b"option of 5", s.new_option(Opt::Some(5), heap));
+    said(b"option of none", s.new_option(Opt::None, heap))
+}
+
+fn names(
+    state: State,
+    heap: &mut [u8; 8192],
+    slots: &mut [u64; 64],
+    spare: &mut [u64; 64],
+) -> State {
+    let s = said(b"intern nothing", state.intern(b"", heap, slots, spare));
+    let s = said(b"intern gold", s.intern(b"gold", heap, slots, spare));
+    let s = said(b"intern gold again", s.intern(b"gold", heap, slots, spare));
+    let s = said(
+        b"intern gold as a word",
+        s.intern_small(4, 0x646c_6f67, heap, slots, spare),
+    );
+    said(
+        b"intern 9 bytes as a word",
+        s.intern_small(9, 0, heap, slots, spare),
+    )
+}
+
+// 30 names more, and one that 64 slots have no room for.
+fn many_names(
+    state: State,
+    heap: &mut [u8; 8192],
+    slots: &mut [u64; 64],
+    spare: &mut [u64; 64],
+) -> State {
+    let mut s = state;
+    let mut i: u64 = 1;
+    while i < 31 {
+        s = s.intern_small(1, i, heap, slots, spare).state;
+        i += 1;
+    }
+    said(
+        b"intern the 32nd name",
+        s.intern_small(1, 30, heap, slots, spare),
+    );
+    said(
+        b"intern the 33rd name",
+        s.intern_small(1, 31, heap, slots, spare),
+    )
+}
+
+fn main() {
+    let halt: [u64; 1] = [59];
+    let none: [u64; 0] = [];
+    let mut frames = [0u64; 4];
+    let mut heap = [0u8; 8192];
+    let mut slots = [0u64; 64];
+    let mut spare = [0u64; 64];
+    said(
+        b"start at no page's address",
+        start::start(
+            100,
+            &halt,
+            &none,
+            &none,
+            &none,
+            &none,
+            &none,
+            &none,
+            &none,
+            &none,
+            &mut frames,
+            &mut heap,
+            &slots,
+            &spare,
+        ),
+    );
+    let s = said(
+        b"start",
+        start::start(
+            BASE,
+            &halt,
+            &none,
+            &none,
+            &none,
+            &none,
+            &none,
+            &none,
+            &none,
+            &none,
+            &mut frames,
+            &mut heap,
+            &slots,
+            &spare,
+        ),
+    );
+    registers(s);
+    let s = said(b"set register 32", s.set_register(32, 1));
+    let s = runs(s, &mut frames, &mut heap);
+    refused_runs(s, &mut frames, &mut heap);
+    let s = blocks(s, &mut heap);
+    let s = names(s, &mut heap, &mut slots, &mut spare);
+    many_names(s, &mut heap, &mut slots, &mut spare);
+}
