@@ -12,7 +12,7 @@ use native.Mathlib.Omega.{arith}
 use Rattle.memory.specs.Lists.{write}
 use Rattle.memory.proofs.Over.{set-write, sets-write, write-append}
 use Rattle.report.specs.Hex.{digitOf, hexOf}
-use Rattle.report.specs.Report.{Written, endLine, registerLine, registerLines, stateLine, reportOf}
+use Rattle.report.specs.Report.{Written, endLine, registerLine, registerLines, stateLine, reportOf, longest}
 use Rattle.report.specs.declared.Summary.{Summary}
 
 -- ---- one text behind another
@@ -131,7 +131,6 @@ module _ (before : List ℕ) (at : ℕ) (regs : List ℕ) where
       let rest : write place [] out ≡ write at (registerLines 0 regs) before = rw (drop-of-length-le regs h) at (l .rest) in
       record { ends = omega (arith, ends); long = refl; is = sets-write [] out place ∙ rest }
 
--- the longest report of 32 registers: 27 + 19 * 32 + 21
-pub length-report : (s : Summary) (regs : List ℕ) → length regs ≡ 32 → length (reportOf s regs) ≤ 656
+pub length-report : (s : Summary) (regs : List ℕ) → length regs ≡ 32 → length (reportOf s regs) ≤ longest
 unfolding reportOf stateLine
 length-report s regs h = simp (length-append, length-end, length-hex) (omega (arith, length-registers 0 regs))

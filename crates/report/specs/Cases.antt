@@ -1,10 +1,11 @@
 -- Document 01's worked output, and a refusal, in one table, and the one fact, by computation, that all its rows hold. Assumes nothing.
 use mathlib.Core.Path.{_≡_, refl}
-use mathlib.Core.Bool.{Bool, true, _&&_}
+use mathlib.Core.Bool.{true}
 use mathlib.Core.List.{List, [], _∷_, _++_}
 use Prim.Native.Nat.{ℕ}
 use lib.ListN.{replicate}
 use Rattle.memory.specs.Lists.{same}
+use Rattle.memory.specs.Rows.{holdLists}
 use Rattle.report.specs.Hex.{digitOf, hexOf}
 use Rattle.report.specs.Report.{endLine, registerLine, registerLines, stateLine, reportOf, refusalOf}
 use Rattle.report.specs.declared.Summary.{Summary}
@@ -34,10 +35,6 @@ rows =
     ∷ (refusalOf 19, 49 ∷ 51 ∷ 10 ∷ [])
     ∷ []
 
-unfoldable pub hold : List (List ℕ × List ℕ) → Bool
-hold [] = true
-hold (row ∷ rest) = same (row .0) (row .1) && hold rest
-
-pub all-hold : hold rows ≡ true
-unfolding rows hold same digitOf hexOf endLine registerLine registerLines stateLine reportOf refusalOf
+pub all-hold : holdLists rows ≡ true
+unfolding rows holdLists same digitOf hexOf endLine registerLine registerLines stateLine reportOf refusalOf
 all-hold = refl

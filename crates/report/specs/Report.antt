@@ -1,5 +1,5 @@
 -- Document 01, 'Instruction and image': what is printed of a run and of a refusal. Definitions only.
-use Prim.Native.Nat.{ℕ, suc, _+_, _/_}
+use Prim.Native.Nat.{ℕ, suc, _+_, _*_, _/_}
 use mathlib.Core.Path.{_≡_}
 use mathlib.Core.Bool.{cond}
 use mathlib.Core.List.{List, [], _∷_, _++_}
@@ -32,6 +32,10 @@ stateLine s = hexOf 4 (s .depth) ++ hexOf 4 (s .pushed / pageSize) ++ hexOf 8 (s
 
 unfoldable pub reportOf : Summary → List ℕ → List ℕ
 reportOf s regs = endLine s ++ registerLines 0 regs ++ stateLine s
+
+-- the length of the longest report of 32 registers: its first line, a line for each register, its last line
+abbrev pub longest : ℕ
+longest = 27 + 19 * 32 + 21
 
 -- 'A refusal, of an interning too, is its number alone in two digits.'
 unfoldable pub refusalOf : ℕ → List ℕ

@@ -5,9 +5,10 @@ ghost use mathlib.Core.List.{_∷_, []};
 ghost use Prim.Native.Nat.{_+_, _*_, _≤_, _<_};
 ghost use lib.ListN.{length};
 ghost use Rattle.report.specs.Hex.{digitOf, hexOf};
-ghost use Rattle.report.specs.Report.{Written, endLine, registerLine, registerLines, stateLine, reportOf, refusalOf};
+ghost use Rattle.report.specs.Report.{Written, endLine, registerLine, registerLines, stateLine, reportOf, longest, refusalOf};
 
-// The longest report: 27 bytes of the first line, 19 for each of 32 registers, 21 of the last line.
+// The length of the longest report: 27 bytes of the first line, 19 for each of 32 registers, 21 of
+// the last line.
 pub const LONGEST: usize = 656;
 
 // What a report shows beside the registers. `pushed` counts the bytes of pushed pages, `len`
@@ -105,8 +106,8 @@ fn put_state(out: &mut [u8], at: usize, s: Summary) -> usize
 
 // The report of a run with its 32 registers, written from `at` on; the place after it.
 pub fn put_report(out: &mut [u8], at: usize, s: Summary, regs: &[u64]) -> usize
-    requires { ⌜ (length (now regs) ≡ 32) × (at + 656 ≤ length (now out)) ⌝ }
-    ensures { λ r. ⌜ Written (now (out .entry)) at (reportOf s (now (regs .entry))) (length (reportOf s (now (regs .entry)))) (now (out .exit)) r × (r ≤ at + 656) ⌝ }
+    requires { ⌜ (length (now regs) ≡ 32) × (at + longest ≤ length (now out)) ⌝ }
+    ensures { λ r. ⌜ Written (now (out .entry)) at (reportOf s (now (regs .entry))) (length (reportOf s (now (regs .entry)))) (now (out .exit)) r × (r ≤ at + longest) ⌝ }
 {
     let a = put_end(out, at, s);
     let b = put_registers(out, a, regs);

@@ -12,7 +12,7 @@ use Rattle.memory.specs.Lists.{over, write}
 use Rattle.memory.proofs.Over.{sets-write, write-append}
 use Rattle.text.specs.Digits.{field, numbers}
 use Rattle.text.specs.Lines.{Lines, linesOf, kindOf, payloadOf}
-use Rattle.text.specs.Sections.{Added, of, targetsIn, valuesIn, adds, sectionOf, sectionIn}
+use Rattle.text.specs.Sections.{Added, ofKind, targetsIn, valuesIn, adds, sectionOf, sectionIn}
 use Rattle.text.specs.declared.sections.Section.{Section}
 use Rattle.text.specs.declared.sections.Section.the-variants.{Code, Globals, SwitchFirsts, SwitchEnds, SwitchEntries, LookupFirsts, LookupDefaults, LookupEnds, LookupEntries}
 use Rattle.text.proofs.Splitting.{Ends, lineAt, to-line, to-cut, to-none, length-line, payload-at}
@@ -124,7 +124,7 @@ pub adds-few : (section : Section) (targets values k : ℕ) (p : List ℕ) → l
 unfolding adds
 adds-few Code targets values k p = either-few (eqb k 1) _ _ (omega arith)
 adds-few Globals targets values k p =
-    rw (length-append (of 2 k (field 0 16 p ∷ [])) (of 5 k (0 ∷ [])))
+    rw (length-append (ofKind 2 k (field 0 16 p ∷ [])) (ofKind 5 k (0 ∷ [])))
     (omega (arith, either-few (eqb k 2) (field 0 16 p ∷ []) 1 (omega arith), either-few (eqb k 5) (0 ∷ []) 1 (omega arith)))
 adds-few SwitchFirsts targets values k p = either-few (eqb k 3) _ _ (omega arith)
 adds-few SwitchEnds targets values k p = either-few (eqb k 3) _ _ (omega arith)

@@ -12,8 +12,10 @@ use borrow.Author.Tests.{eqb-true, eqb-false}
 use Rattle.memory.specs.Lists.{over, write}
 use Rattle.text.specs.Digits.{field}
 use Rattle.text.specs.Lines.{linesOf, kindOf, payloadOf}
-use Rattle.text.specs.Sections.{Added, of, adds}
-use Rattle.text.specs.Names.{bytesIn, Name, named, namesOf, nth, nameOf}
+use Rattle.text.specs.Sections.{Added, ofKind, adds}
+use Rattle.text.specs.Names.{bytesIn, Name, named, namesOf, nth, nameOf, Found}
+use Rattle.text.specs.declared.names.Spot.{Spot}
+use Rattle.text.specs.declared.names.Spot.the-variants as Spot
 use Rattle.text.specs.declared.sections.Section.the-variants.{Globals}
 use Rattle.text.proofs.Splitting.{Ends, lineAt, to-line, to-cut, to-none, payload-at}
 use Rattle.text.proofs.Gathering.{entries, entries-few, Putting, putting-start, putting-end}
@@ -35,6 +37,11 @@ module _ (p out₀ : List ℕ) where
   bytes-end out left at n g h =
       let a : Added out₀ 0 (bytesIn p) out n = putting-end p 2 out₀ 0 (bytesIn p) out left at n g h in
       (omega (arith, a .count), a .is)
+
+-- ---- a name that was found
+
+pub found-at : (s : List ℕ) (i : ℕ) (spot : Spot) (global start end : ℕ) → Found s i spot → spot ≡ Spot.At global start end → Found s i (Spot.At global start end)
+found-at s i spot global start end found is = rw is at found
 
 -- ---- names, line by line
 

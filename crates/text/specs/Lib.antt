@@ -4,3 +4,4 @@ pub mod Lines
 pub mod Text
 pub mod Sections
 pub mod Names
+pub mod Cases

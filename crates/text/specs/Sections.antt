@@ -12,8 +12,8 @@ use Rattle.text.specs.declared.sections.Section.{Section}
 use Rattle.text.specs.declared.sections.Section.the-variants.{Code, Globals, SwitchFirsts, SwitchEnds, SwitchEntries, LookupFirsts, LookupDefaults, LookupEnds, LookupEntries}
 
 -- what a line gives if it is of a kind, and nothing else
-abbrev pub of : ℕ → ℕ → List ℕ → List ℕ
-of kind k xs = cond (eqb k kind) xs []
+abbrev pub ofKind : ℕ → ℕ → List ℕ → List ℕ
+ofKind kind k xs = cond (eqb k kind) xs []
 
 -- `03`: 'first, then 4-digit targets'
 abbrev pub targetsIn : List ℕ → List ℕ
@@ -26,22 +26,22 @@ valuesIn p = numbers 16 ((length p - 32) / 16) (drop 32 p)
 -- what a line of kind k with the payload p adds to a section, where the tables so far, with its own, have so many targets and so many values.
 -- A global is that of a line `02`, or of a name, `05`, which is 0 until it is interned
 unfoldable pub adds : Section → ℕ → ℕ → ℕ → List ℕ → List ℕ
-adds Code targets values k p = of 1 k (field 0 16 p ∷ [])
-adds Globals targets values k p = of 2 k (field 0 16 p ∷ []) ++ of 5 k (0 ∷ [])
-adds SwitchFirsts targets values k p = of 3 k (field 0 16 p ∷ [])
-adds SwitchEnds targets values k p = of 3 k (targets ∷ [])
-adds SwitchEntries targets values k p = of 3 k (targetsIn p)
-adds LookupFirsts targets values k p = of 4 k (field 0 16 p ∷ [])
-adds LookupDefaults targets values k p = of 4 k (field 16 16 p ∷ [])
-adds LookupEnds targets values k p = of 4 k (values ∷ [])
-adds LookupEntries targets values k p = of 4 k (valuesIn p)
+adds Code targets values k p = ofKind 1 k (field 0 16 p ∷ [])
+adds Globals targets values k p = ofKind 2 k (field 0 16 p ∷ []) ++ ofKind 5 k (0 ∷ [])
+adds SwitchFirsts targets values k p = ofKind 3 k (field 0 16 p ∷ [])
+adds SwitchEnds targets values k p = ofKind 3 k (targets ∷ [])
+adds SwitchEntries targets values k p = ofKind 3 k (targetsIn p)
+adds LookupFirsts targets values k p = ofKind 4 k (field 0 16 p ∷ [])
+adds LookupDefaults targets values k p = ofKind 4 k (field 16 16 p ∷ [])
+adds LookupEnds targets values k p = ofKind 4 k (values ∷ [])
+adds LookupEntries targets values k p = ofKind 4 k (valuesIn p)
 
 -- how many targets and values the tables have with a line's
 abbrev pub targetsWith : ℕ → ℕ → List ℕ → ℕ
-targetsWith n k p = n + length (of 3 k (targetsIn p))
+targetsWith n k p = n + length (ofKind 3 k (targetsIn p))
 
 abbrev pub valuesWith : ℕ → ℕ → List ℕ → ℕ
-valuesWith n k p = n + length (of 4 k (valuesIn p))
+valuesWith n k p = n + length (ofKind 4 k (valuesIn p))
 
 -- a section of the lines behind tables of so many targets and so many values
 unfoldable pub sectionOf : Section → ℕ → ℕ → Lines → List ℕ

@@ -1,6 +1,6 @@
 // The text of an image: lines of lower-case hexadecimal digits, each a kind of two digits and a
 // payload. `read` refuses a text or gives its header; `gather` lays one section over a buffer;
-// `name` decodes one name. None of them needs more of a text than that it is lent.
+// `name` decodes one name. These two take any bytes, and are of use for a text that is not refused.
 ghost use mathlib.Core.Path.{_≡_};
 ghost use Rattle.text.specs.Text.{headOf, readOf};
 
@@ -10,6 +10,9 @@ pub mod names;
 pub mod sections;
 
 use anomaly::Refusal;
+
+// The longest text.
+pub const MAX_LEN: usize = 65536;
 
 // The numbers of the header.
 pub struct Head {

@@ -4,8 +4,22 @@ ghost use Prim.Native.Nat.{_+_, _-_, _≤_, min};
 ghost use lib.ListN.{length, drop};
 ghost use Rattle.text.specs.Lines.{linesOf, upTo, kindOf, countOk, lineOk};
 ghost use Rattle.text.specs.Text.{isHeader, isOther, restOk, textOk};
+use crate::MAX_LEN;
 use crate::digits::all_digits;
 use crate::digits::number;
+
+// The kinds of lines.
+pub const HEADER: u64 = 0;
+
+pub const WORD: u64 = 1;
+
+pub const GLOBAL: u64 = 2;
+
+pub const SWITCH: u64 = 3;
+
+pub const LOOKUP: u64 = 4;
+
+pub const NAME: u64 = 5;
 
 // Where the line ends that starts at `at`: at its line feed, or at the text's end.
 pub fn line_end(s: &[u8], at: usize) -> usize
@@ -41,12 +55,12 @@ pub fn kind(l: &[u8]) -> u64
 fn count_ok(kind: u64, n: usize) -> bool
     ensures { λ r. ⌜ r ≡ countOk kind n ⌝ }
 {
-    ((kind == 0) & (n == 36))
-        | ((kind == 1) & (n == 16))
-        | ((kind == 2) & (n == 16))
-        | ((kind == 3) & ((16 <= n) & (n % 4 == 0)))
-        | ((kind == 4) & ((32 <= n) & (n % 16 == 0)))
-        | ((kind == 5) & (n % 2 == 0))
+    ((kind == HEADER) & (n == 36))
+        | ((kind == WORD) & (n == 16))
+        | ((kind == GLOBAL) & (n == 16))
+        | ((kind == SWITCH) & ((16 <= n) & (n % 4 == 0)))
+        | ((kind == LOOKUP) & ((32 <= n) & (n % 16 == 0)))
+        | ((kind == NAME) & (n % 2 == 0))
 }
 
 fn line_ok(l: &[u8]) -> bool
@@ -65,14 +79,14 @@ fn is_header(l: &[u8]) -> bool
     ensures { λ r. ⌜ r ≡ isHeader (now (l .entry)) ⌝ }
 {
     let ok = line_ok(l);
-    ok & (kind(l) == 0)
+    ok & (kind(l) == HEADER)
 }
 
 fn is_other(l: &[u8]) -> bool
     ensures { λ r. ⌜ r ≡ isOther (now (l .entry)) ⌝ }
 {
     let ok = line_ok(l);
-    ok & (kind(l) != 0)
+    ok & (kind(l) != HEADER)
 }
 
 // Whether the lines from `from` on are those of an image after its header.
@@ -99,7 +113,7 @@ fn rest_ok(s: &[u8], from: usize) -> bool
 pub fn text_ok(s: &[u8]) -> bool
     ensures { λ r. ⌜ r ≡ textOk (now (s .entry)) ⌝ }
 {
-    if 65536 < s.len() {
+    if MAX_LEN < s.len() {
         return false;
     }
     let end = line_end(s, 0);

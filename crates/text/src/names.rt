@@ -1,4 +1,4 @@
-// The names of an image, its lines of kind 5, in line order.
+// The names of an image, in line order.
 ghost use mathlib.Core.Path.{_≡_};
 ghost use mathlib.Core.Bool.{cond};
 ghost use mathlib.Core.List.{_∷_, []};
@@ -8,6 +8,8 @@ ghost use Rattle.memory.specs.Lists.{over};
 ghost use Rattle.text.specs.Sections.{Added};
 ghost use Rattle.text.specs.Names.{bytesIn, nameOf, Found, answerOf, bytesOf};
 use crate::digits::number;
+use crate::lines::GLOBAL;
+use crate::lines::NAME;
 use crate::lines::kind;
 use crate::lines::line_end;
 use crate::lines::payload_start;
@@ -50,7 +52,7 @@ fn find(s: &[u8], i: usize) -> Spot
             return Spot::Missing;
         }
         let k = kind(&s[at..end]);
-        if (k == 5) & (left == 0) {
+        if (k == NAME) & (left == 0) {
             let start = payload_start(at, end);
             return Spot::At {
                 global: globals,
@@ -58,9 +60,9 @@ fn find(s: &[u8], i: usize) -> Spot
                 end,
             };
         }
-        let name = one_if(k == 5);
+        let name = one_if(k == NAME);
         left -= name;
-        globals += one_if(k == 2) + name;
+        globals += one_if(k == GLOBAL) + name;
         at = end + 1;
     }
     Spot::Missing

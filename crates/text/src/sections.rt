@@ -9,6 +9,11 @@ ghost use Rattle.text.specs.Digits.{numbers};
 ghost use Rattle.text.specs.Lines.{linesOf};
 ghost use Rattle.text.specs.Sections.{Added, adds, sectionIn};
 use crate::digits::number;
+use crate::lines::GLOBAL;
+use crate::lines::LOOKUP;
+use crate::lines::NAME;
+use crate::lines::SWITCH;
+use crate::lines::WORD;
 use crate::lines::kind;
 use crate::lines::line_end;
 use crate::lines::payload_start;
@@ -85,18 +90,18 @@ fn add_line(
     ensures { λ r. ⌜ Added (now (buf .entry)) n (adds section targets values kind (now (p .entry))) (now (buf .exit)) r ⌝ }
 {
     match section {
-        Section::Code => put(kind == 1, number(p, 0, 16), buf, n),
+        Section::Code => put(kind == WORD, number(p, 0, 16), buf, n),
         Section::Globals => {
-            let m = put(kind == 2, number(p, 0, 16), buf, n);
-            put(kind == 5, 0, buf, m)
+            let m = put(kind == GLOBAL, number(p, 0, 16), buf, n);
+            put(kind == NAME, 0, buf, m)
         }
-        Section::SwitchFirsts => put(kind == 3, number(p, 0, 16), buf, n),
-        Section::SwitchEnds => put(kind == 3, targets as u64, buf, n),
-        Section::SwitchEntries => put_entries(kind == 3, p, 16, 4, buf, n),
-        Section::LookupFirsts => put(kind == 4, number(p, 0, 16), buf, n),
-        Section::LookupDefaults => put(kind == 4, number(p, 16, 16), buf, n),
-        Section::LookupEnds => put(kind == 4, values as u64, buf, n),
-        Section::LookupEntries => put_entries(kind == 4, p, 32, 16, buf, n),
+        Section::SwitchFirsts => put(kind == SWITCH, number(p, 0, 16), buf, n),
+        Section::SwitchEnds => put(kind == SWITCH, targets as u64, buf, n),
+        Section::SwitchEntries => put_entries(kind == SWITCH, p, 16, 4, buf, n),
+        Section::LookupFirsts => put(kind == LOOKUP, number(p, 0, 16), buf, n),
+        Section::LookupDefaults => put(kind == LOOKUP, number(p, 16, 16), buf, n),
+        Section::LookupEnds => put(kind == LOOKUP, values as u64, buf, n),
+        Section::LookupEntries => put_entries(kind == LOOKUP, p, 32, 16, buf, n),
     }
 }
 
@@ -116,8 +121,8 @@ pub fn gather(s: &[u8], section: Section, buf: &mut [u64]) -> usize
         let k = kind(&s[at..end]);
         let start = payload_start(at, end);
         let p = &s[start..end];
-        targets += entry_count(k == 3, p.len(), 16, 4);
-        values += entry_count(k == 4, p.len(), 32, 16);
+        targets += entry_count(k == SWITCH, p.len(), 16, 4);
+        values += entry_count(k == LOOKUP, p.len(), 32, 16);
         n = add_line(section, targets, values, k, p, buf, n);
         at = end + 1;
     }

@@ -24,25 +24,22 @@ loop-holds c =
 returns : tie.Need-returns Inv-loop μ-loop
 returns c =
     let line-end = c .before in
-    let loop-test = line-end .before in
-    let loop = loop-test .before in
-    rest-cut _ _ _ (line-end .line-end .ensures) _ (loop .loop .inv .0) (c .if1 .taken) (loop-test .loop-test .taken)
+    let loop = line-end .before .before in
+    rest-cut _ _ _ (line-end .line-end .ensures) _ (loop .loop .inv .0) (omega arith) (omega arith)
 
 loop-again : tie.Need-loop-again Inv-loop μ-loop
 loop-again c =
     let is-other = c .before in
-    let if1 = is-other .before .before in
-    let line-end = if1 .before in
+    let line-end = is-other .before .before .before in
     let loop = line-end .before .before in
-    (rest-next _ _ _ (line-end .line-end .ensures) _ (loop .loop .inv .0) (if1 .if1 .left) _ (is-other .is-other .ensures) (c .if2 .taken), omega arith)
+    (rest-next _ _ _ (line-end .line-end .ensures) _ (loop .loop .inv .0) (omega arith) _ (is-other .is-other .ensures) (c .if2 .taken), omega arith)
 
 returns-2 : tie.Need-returns-2 Inv-loop μ-loop
 returns-2 c =
     let is-other = c .before in
-    let if1 = is-other .before .before in
-    let line-end = if1 .before in
+    let line-end = is-other .before .before .before in
     let loop = line-end .before .before in
-    rest-bad _ _ _ (line-end .line-end .ensures) _ (loop .loop .inv .0) (if1 .if1 .left) _ (is-other .is-other .ensures) (c .if2 .left)
+    rest-bad _ _ _ (line-end .line-end .ensures) _ (loop .loop .inv .0) (omega arith) _ (is-other .is-other .ensures) (c .if2 .left)
 
 returns-3 : tie.Need-returns-3 Inv-loop μ-loop
 returns-3 c =
