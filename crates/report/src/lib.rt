@@ -4,6 +4,7 @@ ghost use mathlib.Core.Path.{_≡_};
 ghost use mathlib.Core.List.{_∷_, []};
 ghost use Prim.Native.Nat.{_+_, _*_, _≤_, _<_};
 ghost use lib.ListN.{length};
+ghost use Rattle.memory.specs.Lists.{write};
 ghost use Rattle.report.specs.Hex.{digitOf, hexOf};
 ghost use Rattle.report.specs.Report.{Written, endLine, registerLine, registerLines, stateLine, reportOf, longest, refusalOf};
 
@@ -107,7 +108,7 @@ fn put_state(out: &mut [u8], at: usize, s: Summary) -> usize
 // The report of a run with its 32 registers, written from `at` on; the place after it.
 pub fn put_report(out: &mut [u8], at: usize, s: Summary, regs: &[u64]) -> usize
     requires { ⌜ (length (now regs) ≡ 32) × (at + longest ≤ length (now out)) ⌝ }
-    ensures { λ r. ⌜ Written (now (out .entry)) at (reportOf s (now (regs .entry))) (length (reportOf s (now (regs .entry)))) (now (out .exit)) r × (r ≤ at + longest) ⌝ }
+    ensures { λ r. ⌜ (r ≡ at + length (reportOf s (now (regs .entry)))) × (now (out .exit) ≡ write at (reportOf s (now (regs .entry))) (now (out .entry))) × (r ≤ at + longest) ⌝ }
 {
     let a = put_end(out, at, s);
     let b = put_registers(out, a, regs);
@@ -117,7 +118,7 @@ pub fn put_report(out: &mut [u8], at: usize, s: Summary, regs: &[u64]) -> usize
 // The number of a refusal alone, written from `at` on; the place after it.
 pub fn put_refusal(out: &mut [u8], at: usize, number: u64) -> usize
     requires { ⌜ at + 3 ≤ length (now out) ⌝ }
-    ensures { λ r. ⌜ Written (now (out .entry)) at (refusalOf number) 3 (now (out .exit)) r ⌝ }
+    ensures { λ r. ⌜ (r ≡ at + 3) × (now (out .exit) ≡ write at (refusalOf number) (now (out .entry))) ⌝ }
 {
     let a = put_hex(out, at, 2, number);
     put_line_feed(out, a)

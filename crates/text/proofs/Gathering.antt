@@ -40,7 +40,7 @@ _and-then_ {buf} {mid} {after} {n} {i} {j} {xs} {ys} p q =
 
 -- ---- the entries of a table's line
 
-length-numbers : (width count : ℕ) (p : List ℕ) → length (numbers width count p) ≡ count
+pub length-numbers : (width count : ℕ) (p : List ℕ) → length (numbers width count p) ≡ count
 unfolding numbers
 length-numbers width zero p = refl
 length-numbers width (suc count) p = ap suc (length-numbers width count (drop width p))

@@ -4,3 +4,5 @@ pub mod Splitting
 pub mod WellFormed
 pub mod Gathering
 pub mod Naming
+pub mod Indices
+pub mod Tables

@@ -4,21 +4,21 @@ use mathlib.Core.Path.{_≡_, refl, sym, ap, _∙_}
 use mathlib.Core.Bool.{Bool, true, false, cond, _&&_}
 use mathlib.Core.Option.{Option, none, some}
 use mathlib.Core.List.{List, [], _∷_, _++_}
-use lib.ListN.{length, drop, length-append}
+use lib.ListN.{length, drop, length-append, length-take, length-drop}
 use lib.Dec.{eqb}
 use native.Mathlib.Nat.{sub-zero}
 use native.Mathlib.Omega.{arith}
 use borrow.Author.Tests.{eqb-true, eqb-false}
-use Rattle.memory.specs.Lists.{over, write}
+use Rattle.memory.specs.Lists.{over, write, part}
 use Rattle.text.specs.Digits.{field}
 use Rattle.text.specs.Lines.{linesOf, kindOf, payloadOf}
 use Rattle.text.specs.Sections.{Added, ofKind, adds}
-use Rattle.text.specs.Names.{bytesIn, Name, named, namesOf, nth, nameOf, Found}
+use Rattle.text.specs.Names.{bytesIn, Name, named, namesOf, nth, nameOf, Found, bytesOf}
 use Rattle.text.specs.declared.names.Spot.{Spot}
 use Rattle.text.specs.declared.names.Spot.the-variants as Spot
 use Rattle.text.specs.declared.sections.Section.the-variants.{Globals}
 use Rattle.text.proofs.Splitting.{Ends, lineAt, to-line, to-cut, to-none, payload-at}
-use Rattle.text.proofs.Gathering.{entries, entries-few, Putting, putting-start, putting-end}
+use Rattle.text.proofs.Gathering.{length-numbers, entries, entries-few, Putting, putting-start, putting-end}
 
 -- ---- the bytes of a name
 
@@ -43,6 +43,12 @@ module _ (p out₀ : List ℕ) where
 pub found-at : (s : List ℕ) (i : ℕ) (spot : Spot) (global start end : ℕ) → Found s i spot → spot ≡ Spot.At global start end → Found s i (Spot.At global start end)
 found-at s i spot global start end found is = rw is at found
 
+-- it has at most half as many bytes as the text
+pub found-short : (s : List ℕ) (start size global : ℕ) (name : Option Name) → name ≡ some (named global (bytesIn (part start size s))) →
+    2 * length (bytesOf name) ≤ length s
+unfolding bytesOf
+found-short s start size global name is = rw (is, length-numbers) (omega (arith, length-take size (drop start s), length-drop start s))
+
 -- ---- names, line by line
 
 -- of a line that is the name sought, and of one that is not
@@ -63,9 +69,9 @@ passed true (suc left) one name more h is = let back : suc left - one ≡ left =
 passed false left one name more h is = let back : left - one ≡ left = omega arith in (omega arith, rw back)
 
 -- how many globals a line makes
-ones : (k : ℕ) (p : List ℕ) → length (adds Globals 0 0 k p) ≡ cond (eqb k 2) 1 0 + cond (eqb k 5) 1 0
+pub ones : (targets values k : ℕ) (p : List ℕ) → length (adds Globals targets values k p) ≡ cond (eqb k 2) 1 0 + cond (eqb k 5) 1 0
 unfolding adds
-ones k p = rw (length-append, one (eqb k 2) (field 0 16 p), one (eqb k 5) 0)
+ones targets values k p = rw (length-append, one (eqb k 2) (field 0 16 p), one (eqb k 5) 0)
   where
     one : (here : Bool) (v : ℕ) → length (cond here (v ∷ []) []) ≡ cond here 1 0
     one true v = refl
@@ -113,7 +119,7 @@ module _ (s : List ℕ) (i : ℕ) where
               let payload : List ℕ = payloadOf (lineAt s at e) in
               let here : Name = named globals (bytesIn payload) in
               let more : List Name = namesOf (globals + (global + name)) (linesOf (drop (e + 1) s)) in
-              let made : length (adds Globals 0 0 k payload) ≡ global + name = rw (is-global, is-name) (ones k payload) in
+              let made : length (adds Globals 0 0 k payload) ≡ global + name = rw (is-global, is-name) (ones 0 0 k payload) in
               let rest : nth left (cond (eqb k 5) (here ∷ []) [] ++ more) ≡ nameOf i s = rw (to-line s at e ends h, ← kind, made) at (g .rest) in
               record {
                 within = omega arith;

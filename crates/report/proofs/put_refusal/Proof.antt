@@ -10,7 +10,8 @@ unfolding refusalOf
 returns c =
     let put-line-feed = c .before .before in
     let put-hex = put-line-feed .before .before .before .before in
-    put-hex .put-hex .ensures then put-line-feed .put-line-feed .ensures
+    let text = put-hex .put-hex .ensures then put-line-feed .put-line-feed .ensures in
+    (text .ends, text .is)
 
 pub put-refusal-spec : {M : Type 1} → statement M
 put-refusal-spec =
