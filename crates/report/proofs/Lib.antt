@@ -1,0 +1,2 @@
+-- The laws of texts written one behind another.
+pub mod Texts

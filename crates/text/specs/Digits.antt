@@ -1,0 +1,29 @@
+-- Document 01, 'Instruction and image': 'lower-case lines, highest digit first'. Definitions only.
+use Prim.Native.Nat.{ℕ, zero, suc, _+_, _-_, _*_, _%_}
+use mathlib.Core.Bool.{Bool, true, cond, _&&_}
+use mathlib.Core.List.{List, [], _∷_}
+use lib.ListN.{take, drop}
+use lib.Dec.{ltb}
+use Rattle.memory.specs.Lists.{part}
+
+-- the value of `0` to `9` and `a` to `f`; 16 of any other byte
+unfoldable pub digitOf : ℕ → ℕ
+digitOf c = cond (ltb c 48) 16 (cond (ltb c 58) (c - 48) (cond (ltb c 97) 16 (cond (ltb c 103) (c - 87) 16)))
+
+unfoldable pub allDigits : List ℕ → Bool
+allDigits [] = true
+allDigits (c ∷ s) = ltb (digitOf c) 16 && allDigits s
+
+-- the digits s read on from the number w; what is no digit counts as 0, in texts that are refused anyway
+unfoldable pub readOn : ℕ → List ℕ → ℕ
+readOn w [] = w
+readOn w (c ∷ s) = readOn (w * 16 + digitOf c % 16) s
+
+-- the number of n digits that starts at the digit i of p
+abbrev pub field : ℕ → ℕ → List ℕ → ℕ
+field i n p = readOn 0 (part i n p)
+
+-- count numbers of n digits each, one behind the other
+unfoldable pub numbers : ℕ → ℕ → List ℕ → List ℕ
+numbers n zero p = []
+numbers n (suc count) p = field 0 n p ∷ numbers n count (drop n p)
