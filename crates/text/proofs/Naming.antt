@@ -4,21 +4,21 @@ use mathlib.Core.Path.{_≡_, refl, sym, ap, _∙_}
 use mathlib.Core.Bool.{Bool, true, false, cond, _&&_}
 use mathlib.Core.Option.{Option, none, some}
 use mathlib.Core.List.{List, [], _∷_, _++_}
-use lib.ListN.{length, drop, length-append, length-take, length-drop}
+use lib.ListN.{length, drop, length-append}
 use lib.Dec.{eqb}
 use native.Mathlib.Nat.{sub-zero}
 use native.Mathlib.Omega.{arith}
 use borrow.Author.Tests.{eqb-true, eqb-false}
-use Rattle.memory.specs.Lists.{over, write, part}
+use Rattle.memory.specs.Lists.{over, write}
 use Rattle.text.specs.Digits.{field}
 use Rattle.text.specs.Lines.{linesOf, kindOf, payloadOf}
 use Rattle.text.specs.Sections.{Added, ofKind, adds}
-use Rattle.text.specs.Names.{bytesIn, Name, named, namesOf, nth, nameOf, Found, bytesOf}
+use Rattle.text.specs.Names.{bytesIn, Name, named, namesOf, nth, nameOf, Found}
 use Rattle.text.specs.declared.names.Spot.{Spot}
 use Rattle.text.specs.declared.names.Spot.the-variants as Spot
 use Rattle.text.specs.declared.sections.Section.the-variants.{Globals}
 use Rattle.text.proofs.Splitting.{Ends, lineAt, to-line, to-cut, to-none, payload-at}
-use Rattle.text.proofs.Gathering.{length-numbers, entries, entries-few, Putting, putting-start, putting-end}
+use Rattle.text.proofs.Gathering.{entries, entries-few, Putting, putting-start, putting-end}
 
 -- ---- the bytes of a name
 
@@ -42,12 +42,6 @@ module _ (p out₀ : List ℕ) where
 
 pub found-at : (s : List ℕ) (i : ℕ) (spot : Spot) (global start end : ℕ) → Found s i spot → spot ≡ Spot.At global start end → Found s i (Spot.At global start end)
 found-at s i spot global start end found is = rw is at found
-
--- it has at most half as many bytes as the text
-pub found-short : (s : List ℕ) (start size global : ℕ) (name : Option Name) → name ≡ some (named global (bytesIn (part start size s))) →
-    2 * length (bytesOf name) ≤ length s
-unfolding bytesOf
-found-short s start size global name is = rw (is, length-numbers) (omega (arith, length-take size (drop start s), length-drop start s))
 
 -- ---- names, line by line
 

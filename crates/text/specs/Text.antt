@@ -11,10 +11,10 @@ use Rattle.text.specs.declared.Head.{Head}
 use Rattle.text.specs.declared.Reading.{Reading}
 use Rattle.text.specs.declared.Reading.the-variants.{Image, Refused}
 
-unfoldable pub isHeader : List ℕ → Bool
+abbrev pub isHeader : List ℕ → Bool
 isHeader l = lineOk l && eqb (kindOf l) 0
 
-unfoldable pub isOther : List ℕ → Bool
+abbrev pub isOther : List ℕ → Bool
 isOther l = lineOk l && not (eqb (kindOf l) 0)
 
 -- after the header: well-formed lines and no second header

@@ -45,6 +45,7 @@ pub fn payload_start(at: usize, end: usize) -> usize
     if end - at < 2 { end } else { at + 2 }
 }
 
+// The number of a line's first two digits.
 pub fn kind(l: &[u8]) -> u64
     ensures { λ r. ⌜ r ≡ kindOf (now (l .entry)) ⌝ }
 {
@@ -63,6 +64,7 @@ fn count_ok(kind: u64, n: usize) -> bool
         | ((kind == NAME) & (n % 2 == 0))
 }
 
+// Whether a line has a known kind, digits alone, and as many as its kind asks for.
 fn line_ok(l: &[u8]) -> bool
     ensures { λ r. ⌜ r ≡ lineOk (now (l .entry)) ⌝ }
 {

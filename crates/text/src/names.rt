@@ -2,7 +2,7 @@
 ghost use mathlib.Core.Path.{_≡_};
 ghost use mathlib.Core.Bool.{cond};
 ghost use mathlib.Core.List.{_∷_, []};
-ghost use Prim.Native.Nat.{_+_, _*_, _≤_, _<_, _^_};
+ghost use Prim.Native.Nat.{_+_, _≤_, _<_, _^_};
 ghost use lib.ListN.{length};
 ghost use Rattle.memory.specs.Lists.{over};
 ghost use Rattle.text.specs.Sections.{Added};
@@ -80,7 +80,8 @@ fn put_byte(v: u64, out: &mut [u8], n: usize) -> usize
     n + 1
 }
 
-// The bytes that digits say, laid over a buffer from its start, as far as it goes; how many there are.
+// The bytes that digits say, laid over a buffer from its start, as far as it goes; how many there
+// are.
 fn put_bytes(p: &[u8], out: &mut [u8]) -> usize
     ensures { λ r. ⌜ (r ≡ length (bytesIn (now (p .entry)))) × (now (out .exit) ≡ over (bytesIn (now (p .entry))) (now (out .entry))) ⌝ }
 {
@@ -97,9 +98,9 @@ fn put_bytes(p: &[u8], out: &mut [u8]) -> usize
 }
 
 // The name of an image that `i` names stand before, its bytes laid over a buffer from its start, as
-// far as it goes. They are at most half as many as the text's.
+// far as it goes.
 pub fn name(s: &[u8], i: usize, out: &mut [u8]) -> Named
-    ensures { λ r. ⌜ (r ≡ answerOf (nameOf i (now (s .entry)))) × (now (out .exit) ≡ over (bytesOf (nameOf i (now (s .entry)))) (now (out .entry))) × (2 * length (bytesOf (nameOf i (now (s .entry)))) ≤ length (now (s .entry))) ⌝ }
+    ensures { λ r. ⌜ (r ≡ answerOf (nameOf i (now (s .entry)))) × (now (out .exit) ≡ over (bytesOf (nameOf i (now (s .entry)))) (now (out .entry))) ⌝ }
 {
     match find(s, i) {
         Spot::At { global, start, end } => {

@@ -18,6 +18,8 @@ use crate::lines::kind;
 use crate::lines::line_end;
 use crate::lines::payload_start;
 
+// The parts of an image. Tables of a kind are three lists: the first key of each, where the entries
+// of each end among those of all, and all entries in a row; a lookup table has a default too.
 pub enum Section {
     Code,
     Globals,
@@ -76,7 +78,8 @@ fn put_entries(here: bool, p: &[u8], from: usize, width: usize, buf: &mut [u64],
     m
 }
 
-// What a line adds to a section.
+// What a line adds to a section. `targets` and `values` count the entries of the tables so far, with
+// this line's.
 fn add_line(
     section: Section,
     targets: usize,
@@ -105,7 +108,8 @@ fn add_line(
     }
 }
 
-// One section of a text, laid over a buffer from its start, as far as it goes; how many numbers the section has.
+// One section of a text, laid over a buffer from its start, as far as it goes; how many numbers it
+// has.
 pub fn gather(s: &[u8], section: Section, buf: &mut [u64]) -> usize
     ensures { λ r. ⌜ (r ≡ length (sectionIn section (now (s .entry)))) × (now (buf .exit) ≡ over (sectionIn section (now (s .entry))) (now (buf .entry))) ⌝ }
 {

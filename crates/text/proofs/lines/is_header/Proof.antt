@@ -1,11 +1,9 @@
 -- `text::lines::is_header` meets its contract. Assumes nothing.
-use Rattle.text.specs.Text.{isHeader}
 use borrow.Author.Needs.{needs}
 use Rattle.text.proofs.lines.is_header.Statement.{statement}
 use Rattle.text.proofs.lines.is_header.Tie as tie
 
 returns : tie.Need-returns
-unfolding isHeader
 returns c =
     let line-ok = c .before in
     rw (← line-ok .line-ok .ensures, ← c .kind .ensures)

@@ -1,11 +1,9 @@
 -- `text::lines::is_other` meets its contract. Assumes nothing.
-use Rattle.text.specs.Text.{isOther}
 use borrow.Author.Needs.{needs}
 use Rattle.text.proofs.lines.is_other.Statement.{statement}
 use Rattle.text.proofs.lines.is_other.Tie as tie
 
 returns : tie.Need-returns
-unfolding isOther
 returns c =
     let line-ok = c .before in
     rw (← line-ok .line-ok .ensures, ← c .kind .ensures)

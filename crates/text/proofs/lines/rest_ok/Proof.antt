@@ -17,9 +17,7 @@ abbrev μ-loop : tie.MeasureT-loop
 μ-loop s from at₀ at = length s - at
 
 loop-holds : tie.Need-loop-holds Inv-loop μ-loop
-loop-holds c =
-    let start = c .before in
-    (refl, start .pre)
+loop-holds c = (refl, c .before .pre)
 
 returns : tie.Need-returns Inv-loop μ-loop
 returns c =

@@ -9,9 +9,7 @@ returns : tie.Need-returns
 returns c = too-long _ (omega arith)
 
 returns-2 : tie.Need-returns-2
-returns-2 c =
-    let line-end = c .before in
-    header-cut _ _ (line-end .line-end .ensures) (omega arith) (omega arith)
+returns-2 c = header-cut _ _ (c .before .line-end .ensures) (omega arith) (omega arith)
 
 returns-3 : tie.Need-returns-3
 returns-3 c =

@@ -17,9 +17,7 @@ loop-holds : tie.Need-loop-holds Inv-loop μ-loop
 loop-holds c = seek-start _ _
 
 line-end-requires : tie.Need-line-end-requires Inv-loop μ-loop
-line-end-requires c κs =
-    let loop = c .before in
-    loop .loop .inv .within
+line-end-requires c κs = c .before .loop .inv .within
 
 returns : tie.Need-returns Inv-loop μ-loop
 returns c =
@@ -35,7 +33,8 @@ returns-2 c =
     let if1 = kind .before .before in
     let line-end = if1 .before in
     let loop = line-end .before .before in
-    (seek-here _ _ _ _ _ (loop .loop .inv) _ (line-end .line-end .ensures) (if1 .if1 .left) _ (kind .kind .ensures) (if2 .if2 .taken) _ (c .payload-start .ensures), omega (arith, c .payload-start .ensures, line-end .line-end .ensures .0), line-end .line-end .ensures .1)
+    let here = seek-here _ _ _ _ _ (loop .loop .inv) _ (line-end .line-end .ensures) (if1 .if1 .left) _ (kind .kind .ensures) (if2 .if2 .taken) _ (c .payload-start .ensures) in
+    (here, omega (arith, c .payload-start .ensures, line-end .line-end .ensures .0), line-end .line-end .ensures .1)
 
 sub-left : tie.Need-sub-left Inv-loop μ-loop
 sub-left c =
@@ -62,7 +61,8 @@ loop-again c =
     let if1 = kind .before .before in
     let line-end = if1 .before in
     let loop = line-end .before .before in
-    seek-next _ _ _ _ _ (loop .loop .inv) _ (line-end .line-end .ensures) (if1 .if1 .left) _ (kind .kind .ensures) (if2 .if2 .left) _ _ (one-if .one-if .ensures .0) (c .one-if2 .ensures .0)
+    seek-next _ _ _ _ _ (loop .loop .inv) _ (line-end .line-end .ensures) (if1 .if1 .left) _ (kind .kind .ensures) (if2 .if2 .left)
+    _ _ (one-if .one-if .ensures .0) (c .one-if2 .ensures .0)
 
 returns-3 : tie.Need-returns-3 Inv-loop μ-loop
 returns-3 c =

@@ -1,9 +1,7 @@
 -- `text::names::name` meets its contract. Assumes nothing.
-use Prim.Native.Nat.{_-_}
-use native.Mathlib.Omega.{arith}
 use Rattle.memory.specs.Lists.{over}
 use Rattle.text.specs.Names.{answerOf, bytesOf}
-use Rattle.text.proofs.Naming.{found-at, found-short}
+use Rattle.text.proofs.Naming.{found-at}
 use borrow.Author.Needs.{needs}
 use Rattle.text.proofs.names.name.Statement.{statement}
 use Rattle.text.proofs.names.name.Tie as tie
@@ -32,18 +30,15 @@ returns c =
     let put-bytes = c .before .before in
     let global = put-bytes .before .before .before .before in
     let find = global .before .before in
-    let start = find .before .before .before in
     let found = found-at _ _ _ _ _ _ (find .find .ensures) (global .global .given .1) in
-    let from = global .global .given .0 .1 .0 in
-    let to = global .global .given .0 .1 .1 .0 in
-    (rw (found .0, put-bytes .put-bytes .ensures .0), rw (found .0) (put-bytes .put-bytes .ensures .1), found-short (start .args .s .now) from (to - from) (global .global .given .0 .0) _ (found .0))
+    (rw (found .0, put-bytes .put-bytes .ensures .0), rw (found .0) (put-bytes .put-bytes .ensures .1))
 
 returns-2 : tie.Need-returns-2
 unfolding answerOf bytesOf over
 returns-2 c =
     let find = c .before .before in
     let missing = rw (c .enum-told .given .1) at (find .find .ensures) in
-    (rw missing, rw missing, rw missing (omega arith))
+    (rw missing, rw missing)
 
 pub name-spec : {M : Type 1} → statement M
 name-spec =

@@ -35,12 +35,11 @@ loop-again c =
     let number = put-byte .before .before in
     let loop-test = number .before in
     let loop = loop-test .before in
-    putting-next _ _ _ _ _ _ _ _ _ (loop .loop .inv) (loop-test .loop-test .taken) (omega arith) _ _ _ (number .number .ensures .0) (put-byte .put-byte .ensures) (put-byte .put-byte .kept .1 .0)
+    putting-next _ _ _ _ _ _ _ _ _ (loop .loop .inv) (loop-test .loop-test .taken) (omega arith)
+    _ _ _ (number .number .ensures .0) (put-byte .put-byte .ensures) (put-byte .put-byte .kept .1 .0)
 
 same-length : tie.Need-same-length Inv-loop μ-loop
-same-length c =
-    let loop = c .before in
-    loop .loop .inv .long
+same-length c = c .before .loop .inv .long
 
 returns : tie.Need-returns Inv-loop μ-loop
 returns c =

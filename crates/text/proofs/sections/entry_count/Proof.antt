@@ -14,9 +14,7 @@ returns c =
     let none : start .args .len - start .args .from ≡ 0 = omega arith in rw (if1 .if1 .taken, none, zero-div)
 
 returns-2 : tie.Need-returns-2
-returns-2 c =
-    let if1 = c .before in
-    rw (if1 .if1 .taken)
+returns-2 c = rw (c .before .if1 .taken)
 
 pub entry-count-spec : {M : Type 1} → statement M
 entry-count-spec =

@@ -18,14 +18,10 @@ loop-holds : tie.Need-loop-holds Inv-loop μ-loop
 loop-holds c = gather-start _ _ _
 
 line-end-requires : tie.Need-line-end-requires Inv-loop μ-loop
-line-end-requires c κs =
-    let loop = c .before in
-    loop .loop .inv .within
+line-end-requires c κs = c .before .loop .inv .within
 
 same-length : tie.Need-same-length Inv-loop μ-loop
-same-length c =
-    let loop = c .before .before .before in
-    loop .loop .inv .long
+same-length c = c .before .before .before .loop .inv .long
 
 returns : tie.Need-returns Inv-loop μ-loop
 returns c =
@@ -41,7 +37,8 @@ add-targets c =
     let line-end = kind .before .before .before in
     let loop = line-end .before .before in
     let start = loop .before .before .before in
-    omega (arith, entries-fit _ _ _ _ (line-end .line-end .ensures) (payload-start .payload-start .ensures) (eqb (kind .kind .result) 3) 16 4 _ _ (loop .loop .inv .few-targets) (c .entry-count .ensures), line-end .line-end .ensures .1, start .good .0 .0)
+    let fits = entries-fit _ _ _ _ (line-end .line-end .ensures) (payload-start .payload-start .ensures) (eqb (kind .kind .result) 3) 16 4 _ _ (loop .loop .inv .few-targets) (c .entry-count .ensures) in
+    omega (arith, fits, line-end .line-end .ensures .1, start .good .0 .0)
 
 add-values : tie.Need-add-values Inv-loop μ-loop
 add-values c =
@@ -50,7 +47,8 @@ add-values c =
     let line-end = kind .before .before .before in
     let loop = line-end .before .before in
     let start = loop .before .before .before in
-    omega (arith, entries-fit _ _ _ _ (line-end .line-end .ensures) (payload-start .payload-start .ensures) (eqb (kind .kind .result) 4) 32 16 _ _ (loop .loop .inv .few-values) (c .entry-count2 .ensures), line-end .line-end .ensures .1, start .good .0 .0)
+    let fits = entries-fit _ _ _ _ (line-end .line-end .ensures) (payload-start .payload-start .ensures) (eqb (kind .kind .result) 4) 32 16 _ _ (loop .loop .inv .few-values) (c .entry-count2 .ensures) in
+    omega (arith, fits, line-end .line-end .ensures .1, start .good .0 .0)
 
 add-line-requires : tie.Need-add-line-requires Inv-loop μ-loop
 add-line-requires c κs =
@@ -60,7 +58,8 @@ add-line-requires c κs =
     let loop-test = line-end .before in
     let loop = loop-test .before in
     let start = loop .before .before .before in
-    omega (arith, numbers-fit _ _ _ _ (line-end .line-end .ensures) (payload-start .payload-start .ensures) _ (loop .loop .inv .few), loop-test .loop-test .taken, if1 .if1 .left, start .good .0 .1)
+    let fits = numbers-fit _ _ _ _ (line-end .line-end .ensures) (payload-start .payload-start .ensures) _ (loop .loop .inv .few) in
+    omega (arith, fits, loop-test .loop-test .taken, if1 .if1 .left, start .good .0 .1)
 
 loop-again : tie.Need-loop-again Inv-loop μ-loop
 loop-again c =
@@ -72,12 +71,11 @@ loop-again c =
     let if1 = kind .before .before in
     let line-end = if1 .before in
     let loop = line-end .before .before in
-    gather-next _ _ _ _ _ _ _ _ (loop .loop .inv) _ (line-end .line-end .ensures) _ _ (kind .kind .ensures) (payload-start .payload-start .ensures) _ _ (entry-count .entry-count .ensures) (entry-count2 .entry-count2 .ensures) (if1 .if1 .left) _ _ (add-line .add-line .ensures) (add-line .add-line .kept .1 .1 .1 .1 .1 .0)
+    gather-next _ _ _ _ _ _ _ _ (loop .loop .inv) _ (line-end .line-end .ensures) _ _ (kind .kind .ensures) (payload-start .payload-start .ensures)
+    _ _ (entry-count .entry-count .ensures) (entry-count2 .entry-count2 .ensures) (if1 .if1 .left) _ _ (add-line .add-line .ensures) (add-line .add-line .kept .1 .1 .1 .1 .1 .0)
 
 same-length-2 : tie.Need-same-length-2 Inv-loop μ-loop
-same-length-2 c =
-    let loop = c .before in
-    loop .loop .inv .long
+same-length-2 c = c .before .loop .inv .long
 
 returns-2 : tie.Need-returns-2 Inv-loop μ-loop
 returns-2 c =

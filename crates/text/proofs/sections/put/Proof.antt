@@ -1,16 +1,13 @@
 -- `text::sections::put` meets its contract. Assumes nothing.
-use mathlib.Core.Path.{ap}
-use mathlib.Core.Bool.{Bool, cond}
-use mathlib.Core.List.{List, _∷_, []}
+use mathlib.Core.Bool.{cond}
+use mathlib.Core.List.{_∷_, []}
 use Rattle.text.proofs.Gathering.{added-one, added-past, added-none}
 use borrow.Author.Needs.{needs}
 use Rattle.text.proofs.sections.put.Statement.{statement}
 use Rattle.text.proofs.sections.put.Tie as tie
 
 returns : tie.Need-returns
-returns c =
-    let if1 = c .before in
-    added-one _ _ _ _ (if1 .if1 .taken)
+returns c = added-one _ _ _ _ (c .before .if1 .taken)
 
 returns-2 : tie.Need-returns-2
 returns-2 c =

@@ -1,5 +1,4 @@
 -- `text::sections::put_entries` meets its contract. Assumes nothing.
-use mathlib.Core.Path.{_∙_}
 use native.Mathlib.Omega.{arith}
 use Rattle.text.proofs.Gathering.{entries, entries-few, Putting, putting-start, putting-room, putting-next, putting-end}
 use borrow.Author.Needs.{needs}
@@ -37,12 +36,11 @@ loop-again c =
     let loop-test = number .before in
     let loop = loop-test .before in
     let start = loop .before .before .before .before in
-    putting-next _ _ _ _ _ _ _ _ _ (loop .loop .inv) (loop-test .loop-test .taken) (start .pre .0) _ _ _ (number .number .ensures .0) (put .put .ensures) (put .put .kept .1 .1 .0)
+    putting-next _ _ _ _ _ _ _ _ _ (loop .loop .inv) (loop-test .loop-test .taken) (start .pre .0)
+    _ _ _ (number .number .ensures .0) (put .put .ensures) (put .put .kept .1 .1 .0)
 
 same-length : tie.Need-same-length Inv-loop μ-loop
-same-length c =
-    let loop = c .before in
-    loop .loop .inv .long
+same-length c = c .before .loop .inv .long
 
 returns : tie.Need-returns Inv-loop μ-loop
 returns c =
