@@ -1,0 +1,143 @@
+-- What the calls of a rating come to in the runner's text. Assumes nothing.
+use mathlib.Core.Path.{_≡_, refl, sym, ap, _∙_}
+use Prim.Native.Nat.{ℕ, zero, suc, _+_, _*_, _≤_, _<_, _^_}
+use mathlib.Core.Bool.{Bool, true, false, _&&_}
+use mathlib.Core.List.{List, [], _∷_}
+use native.Mathlib.Omega.{arith}
+use native.Mathlib.Nat.{zero-add}
+use lib.ListN.{length, take, set, replicate, length-replicate}
+use lib.Dec.{leb}
+use borrow.Author.Tests.{leb-true}
+use Rattle.memory.specs.Lists.{over, write}
+use Rattle.memory.proofs.Over.{take-over}
+use Rattle.anomaly.proofs.Numbers.{both}
+use Rattle.anomaly.specs.declared.Refusal.{Refusal}
+use Rattle.anomaly.specs.Table.{numberOfRefusal}
+use Rattle.text.specs.declared.Head.{Head}
+use Rattle.text.specs.declared.sections.Section.the-variants.{Globals}
+use Rattle.text.specs.Lines.{linesOf}
+use Rattle.text.specs.Text.{textOk}
+use Rattle.text.specs.Sections.{sectionIn}
+use Rattle.text.specs.Names.{Name, namesOf}
+use Rattle.report.specs.Hex.{hexOf}
+use Rattle.report.specs.Report.{refusalOf}
+use Rattle.program.specs.Image.{Image, Tables, tablesOf, imageOf}
+use Rattle.vm.specs.Machine.{Lent, Machine, Answer, ended, value, done, refused, Called, run, host, intern, perform, Started, declined, begun, start, blank}
+use Rattle.vm.specs.declared.State.{State}
+use Rattle.vm.specs.declared.Reply.{Reply}
+use Rattle.vm.specs.Told.{lentOf, machineOf, saidOf, startedOn}
+use Rattle.image.specs.Runner.{imageWith, imageIn, Entered, entersOn, enters, Says, replyText, ranText, toldText, enteredText, namedText, startedText}
+
+pub text-short : (s : List ℕ) → textOk s ≡ true → length s ≤ 65536
+unfolding textOk
+text-short s h = leb-true (length s) 65536 (both (leb (length s) 65536) _ h .0)
+
+-- ---- the image's parts
+
+module _ (s code globals : List ℕ) (switches lookups : Tables) (defaults : List ℕ) (e : imageOf code globals switches lookups defaults ≡ imageIn s) where
+  pub with-globals : (g : List ℕ) → imageOf code g switches lookups defaults ≡ imageWith g s
+  with-globals g =
+      let c = ap (λ (x : Image). x .code) e in
+      let a = ap (λ (x : Image). x .switches) e in
+      let b = ap (λ (x : Image). x .lookups) e in
+      let d = ap (λ (x : Image). x .defaults) e in
+      rw (c, a, b, d) refl
+
+  pub globals-are : globals ≡ sectionIn Globals s
+  globals-are = ap (λ (x : Image). x .globals) e
+
+-- ---- the start
+
+module _ (s : List ℕ) (h : Head) (base : ℕ) (l : Lent) where
+  -- an answer that is not `done` is the refusal's
+  pub started-refused : (x : Started) (a : Answer) (m : Machine) → record { answer = a; machine = m } ≡ startedOn x base l → (a ≡ done → ⊥) → replyText a ≡ startedText s h x
+  unfolding startedOn startedText
+  started-refused (declined e) a m q n = rw (ap (λ (c : Called). c .answer) q) refl
+  started-refused (begun k) a m q n = absurd (n (ap (λ (c : Called). c .answer) q))
+
+  pub started-done : (x : Started) (m : Machine) → record { answer = done; machine = m } ≡ startedOn x base l → namedText s h (enters (namesOf 0 (linesOf s)) m (sectionIn Globals s)) ≡ startedText s h x
+  unfolding startedOn startedText
+  started-done (declined e) m q = let z : _≡_ {A = ℕ} 0 1 = cc (ap (λ (c : Called). c .answer) q) in absurd (omega arith)
+  started-done (begun n) m q = let z : m ≡ n = ap (λ (c : Called). c .machine) q in rw z refl
+
+-- ---- the names
+
+module _ (s : List ℕ) (h : Head) where
+  pub names-refused : (x : Entered) (a : Answer) (m : Machine) (g : List ℕ) → record { called = record { answer = a; machine = m }; globals = g } ≡ x → (a ≡ done → ⊥) → replyText a ≡ namedText s h x
+  unfolding enteredText
+  names-refused x done m g e n = absurd (n refl)
+  names-refused x (value v) m g e n = rw (← e) refl
+  names-refused x (refused k) m g e n = rw (← e) refl
+  names-refused x (ended k pc steps) m g e n = rw (← e) refl
+
+  pub names-done : (x : Entered) (m : Machine) (g : List ℕ) → record { called = record { answer = done; machine = m }; globals = g } ≡ x → toldText (perform (run (imageWith g s) (h .budget)) m) ≡ namedText s h x
+  unfolding enteredText
+  names-done x m g e = rw (← e) refl
+
+-- ---- a rating from its start on
+
+pub value-not-done : (r : Reply) (v : ℕ) → r ≡ Reply.Value v → saidOf r ≡ done → ⊥
+unfolding saidOf
+value-not-done r v e z = let q : _≡_ {A = Answer} (value v) done = rw e at z in let n : _≡_ {A = ℕ} 0 1 = cc in absurd (omega arith)
+
+pub refused-not-done : (r : Reply) (why : Refusal) → r ≡ Reply.Refused why → saidOf r ≡ done → ⊥
+unfolding saidOf
+refused-not-done r why e z = let q : _≡_ {A = Answer} (refused (numberOfRefusal why)) done = rw e at z in let n : _≡_ {A = ℕ} 0 1 = cc in absurd (omega arith)
+
+pub done-is : (r : Reply) → r ≡ Reply.Done → saidOf r ≡ done
+unfolding saidOf
+done-is r e = rw e refl
+
+module _ (s : List ℕ) (h : Head) (base : ℕ) (l : Lent) (x : Started) (r : Reply) (m : Machine) (begins : record { answer = saidOf r; machine = m } ≡ startedOn x base l) where
+  -- a reply that is not `done` is all there is
+  pub start-says : (saidOf r ≡ done → ⊥) → replyText (saidOf r) ≡ startedText s h x
+  start-says n = started-refused s h base l x (saidOf r) m begins n
+
+  module _ (d : saidOf r ≡ done) (globals : List ℕ) (g : globals ≡ sectionIn Globals s) (r′ : Reply) (m′ : Machine) (g′ : List ℕ) (names : record { called = record { answer = saidOf r′; machine = m′ }; globals = g′ } ≡ enters (namesOf 0 (linesOf s)) m globals) where
+    named : namedText s h (enters (namesOf 0 (linesOf s)) m (sectionIn Globals s)) ≡ startedText s h x
+    named = started-done s h base l x m (rw d at begins)
+
+    entered : record { called = record { answer = saidOf r′; machine = m′ }; globals = g′ } ≡ enters (namesOf 0 (linesOf s)) m (sectionIn Globals s)
+    entered = names ∙ ap (λ (y : List ℕ). enters (namesOf 0 (linesOf s)) m y) g
+
+    pub names-say : (saidOf r′ ≡ done → ⊥) → replyText (saidOf r′) ≡ startedText s h x
+    names-say n = names-refused s h _ (saidOf r′) m′ g′ entered n ∙ named
+
+    -- a run is lent no slots, and says the same whatever they are
+    pub run-says : saidOf r′ ≡ done → (im : Image) → im ≡ imageWith g′ s → (b : ℕ) → b ≡ h .budget → (st : State) (f p k q : List ℕ) → m′ ≡ machineOf st (lentOf f p k q)
+        → (c : List ℕ → List ℕ → Called) → ((k q : List ℕ) → c k q ≡ perform (run im b) (machineOf st (lentOf f p k q))) → toldText (c k q) ≡ startedText s h x
+    run-says d′ im i b n st f p k q is c e =
+        let here : c k q ≡ perform (run (imageWith g′ s) (h .budget)) m′ = e k q ∙ rw (is, n, i) refl in
+        ap toldText here ∙ names-done s h _ m′ g′ (rw d′ at entered) ∙ named
+
+-- a text said in another way
+pub says-as : (before after : List ℕ) (r : ℕ) (t u : List ℕ) → t ≡ u → Says before t after r → Says before u after r
+says-as before after r t u e h = rw (← e) h
+
+-- ---- the text
+
+length-refusal : (k : ℕ) → length (refusalOf k) ≡ 3
+unfolding refusalOf hexOf
+length-refusal k = refl
+
+pub refusal-says : (k : ℕ) (before after : List ℕ) (r : ℕ) → r ≡ 0 + 3 → after ≡ write 0 (refusalOf k) before → Says before (refusalOf k) after r
+unfolding write
+refusal-says k before after r e w = (e ∙ sym (length-refusal k), w)
+
+pub report-says : (text before after : List ℕ) (r : ℕ) → r ≡ 0 + length text → after ≡ write 0 text before → Says before text after r
+unfolding write
+report-says text before after r e w = (e ∙ zero-add (length text), w)
+
+pub from-the-start : (text before : List ℕ) → write 0 text before ≡ over text before
+unfolding write
+from-the-start text before = refl
+
+-- zeros, and the first of them
+pub take-zeros : (n k : ℕ) → n ≤ k → take {A = ℕ} n (replicate k 0) ≡ replicate n 0
+take-zeros zero k h = refl
+take-zeros (suc n) zero h = absurd (omega arith)
+take-zeros (suc n) (suc k) h = ap (λ (xs : List ℕ). 0 ∷ xs) (take-zeros n k (omega arith))
+
+-- a section laid over a buffer, and taken out of it again
+pub section-back : (xs buf : List ℕ) (n : ℕ) → n ≡ length xs → n ≤ length buf → take n (over xs buf) ≡ xs
+section-back xs buf n e h = rw e (take-over xs buf (rw (← e) h))

@@ -1,0 +1,136 @@
+-- Names interned one after the other: what is left from here is what the whole list was. Assumes nothing.
+use mathlib.Core.Path.{_≡_, refl, sym, ap, ap₂, subst, _∙_}
+use Prim.Native.Nat.{ℕ, zero, suc, _+_, _-_, _*_, _≤_, _<_}
+use mathlib.Core.Option.{Option, none, some}
+use mathlib.Core.List.{List, [], _∷_}
+use native.Mathlib.Omega.{arith}
+use lib.ListN.{length, take, drop, set, length-set}
+use Rattle.memory.specs.Lists.{over}
+use Rattle.memory.proofs.Over.{length-over, take-over}
+use Rattle.anomaly.specs.declared.Refusal.{Refusal}
+use Rattle.anomaly.specs.Table.{numberOfRefusal}
+use Rattle.text.specs.declared.sections.Section.the-variants.{Globals}
+use Rattle.text.specs.declared.names.Named.{Named}
+use Rattle.text.specs.Lines.{linesOf}
+use Rattle.text.specs.Sections.{sectionIn}
+use Rattle.text.specs.Names.{Name, namesOf, nth, nameOf, answerOf, bytesOf}
+use Rattle.text.proofs.Indices.{nth-some, nth-none, global-within, names-in, name-short}
+use Rattle.vm.specs.declared.State.{State}
+use Rattle.vm.specs.declared.Reply.{Reply}
+use Rattle.vm.specs.Machine.{Lent, Machine, Answer, ended, value, done, refused, Called, host, intern, perform}
+use Rattle.vm.specs.Told.{lentOf, machineOf, saidOf}
+use Rattle.image.specs.Runner.{Entered, entersOn, enters}
+
+-- a name that was answered
+named-by : (o : Option Name) (global len : ℕ) → answerOf o ≡ Named.At global len → (name : Name) × (o ≡ some name) × (name .global ≡ global) × (length (name .bytes) ≡ len)
+unfolding answerOf
+named-by none global len e = let z : _≡_ {A = ℕ} 0 1 = cc in absurd (omega arith)
+named-by (some name) global len e = (name, refl, cc, cc)
+
+none-by : (o : Option Name) → answerOf o ≡ Named.Missing → o ≡ none
+unfolding answerOf
+none-by none e = refl
+none-by (some name) e = let z : _≡_ {A = ℕ} 0 1 = cc in absurd (omega arith)
+
+-- where the loop has come to
+pub record Entering (s : List ℕ) (m₀ : List ℕ → Machine) (g₀ : List ℕ) (m : List ℕ → Machine) (g : List ℕ) (i : ℕ) : Type 0 where
+  pub left : (frames : List ℕ) → enters (drop i (namesOf 0 (linesOf s))) (m frames) g ≡ enters (namesOf 0 (linesOf s)) (m₀ frames) g₀
+  pub few : i ≤ length (namesOf 0 (linesOf s))
+  pub long : length g ≡ length g₀
+
+pub entering-first : (s : List ℕ) (m : List ℕ → Machine) (g : List ℕ) → Entering s m g m g 0
+entering-first s m g = record { left = λ frames. refl; few = omega arith; long = refl }
+
+module _ (s : List ℕ) (m₀ : List ℕ → Machine) (g₀ : List ℕ) (m : List ℕ → Machine) (g : List ℕ) (i : ℕ) (e : Entering s m₀ g₀ m g i) where
+  abbrev names : List Name
+  names = namesOf 0 (linesOf s)
+
+  pub entered-all : answerOf (nameOf i s) ≡ Named.Missing → (frames : List ℕ) → record { called = record { answer = done; machine = m frames }; globals = g } ≡ enters names (m₀ frames) g₀
+  unfolding enters
+  entered-all q frames = (rw (nth-none i names (none-by (nameOf i s) q)) at (e .left frames))
+
+  module _ (global len : ℕ) (q : answerOf (nameOf i s) ≡ Named.At global len) where
+    here : (name : Name) × (nameOf i s ≡ some name) × (name .global ≡ global) × (length (name .bytes) ≡ len)
+    here = named-by (nameOf i s) global len q
+
+    bytes-are : bytesOf (nameOf i s) ≡ here .0 .bytes
+    unfolding bytesOf
+    bytes-are = rw (here .1) refl
+
+    pub bytes-long : length (bytesOf (nameOf i s)) ≡ len
+    bytes-long = rw bytes-are (here .3)
+
+    module _ (short : length s ≤ 65536) (name name′ : List ℕ) (room : 32768 ≤ length name) (laid : name′ ≡ over (bytesOf (nameOf i s)) name) where
+      within : length (bytesOf (nameOf i s)) ≤ length name
+      within = let k = name-short i s in omega arith
+
+      pub bytes-there : len ≤ length name′
+      bytes-there = rw (laid, length-over, ← bytes-long) within
+
+      pub bytes-back : take len name′ ≡ bytesOf (nameOf i s)
+      bytes-back = rw (laid, ← bytes-long) (take-over (bytesOf (nameOf i s)) name within)
+
+    pub global-there : length (sectionIn Globals s) ≤ length g₀ → global < length g
+    global-there h = let k = global-within i 0 0 0 (linesOf s) (here .0) (here .1) in omega (arith, e .long, here .2)
+
+    pub more-left : i < length names
+    more-left = nth-some i names (here .0) (here .1) .0
+
+    -- the call of this name
+    abbrev call : List ℕ → Called
+    call frames = perform (host (intern (bytesOf (nameOf i s)))) (m frames)
+
+    abbrev its : List ℕ → Called
+    its frames = perform (host (intern (here .0 .bytes))) (m frames)
+
+    call-is : (frames : List ℕ) → call frames ≡ its frames
+    call-is frames = ap (λ (b : List ℕ). perform (host (intern b)) (m frames)) bytes-are
+
+    turn : (frames : List ℕ) → entersOn (its frames .answer) (its frames) g (here .0 .global) (enters (drop (i + 1) names)) ≡ enters names (m₀ frames) g₀
+    unfolding enters
+    turn frames = rw (nth-some i names (here .0) (here .1) .1) at (e .left frames)
+
+    answered : (frames : List ℕ) {a : Answer} → its frames .answer ≡ a → entersOn a (its frames) g (here .0 .global) (enters (drop (i + 1) names)) ≡ enters names (m₀ frames) g₀
+    answered frames p = subst (λ (a : Answer). entersOn a (its frames) g (here .0 .global) (enters (drop (i + 1) names)) ≡ enters names (m₀ frames) g₀) p (turn frames)
+
+    value-on : (frames : List ℕ) (v : ℕ) → its frames .answer ≡ value v → enters (drop (i + 1) names) (its frames .machine) (set g (here .0 .global) v) ≡ enters names (m₀ frames) g₀
+    unfolding entersOn
+    value-on frames v p = answered frames p
+
+    value-by : (frames : List ℕ) (v : ℕ) (m′ : Machine) → record { answer = value v; machine = m′ } ≡ call frames → enters (drop (i + 1) names) m′ (set g global v) ≡ enters names (m₀ frames) g₀
+    value-by frames v m′ c =
+        let is : record { answer = value v; machine = m′ } ≡ its frames = c ∙ call-is frames in
+        ap₂ (λ (x : Machine) (y : ℕ). enters (drop (i + 1) names) x (set g y v)) (ap (λ (x : Called). x .machine) is) (sym (here .2)) ∙ value-on frames v (sym (ap (λ (x : Called). x .answer) is))
+
+    pub entering-next : (v : ℕ) (m′ : List ℕ → Machine) → ((frames : List ℕ) → record { answer = value v; machine = m′ frames } ≡ call frames) → Entering s m₀ g₀ m′ (set g global v) (i + 1)
+    entering-next v m′ c =
+        record {
+          left = λ frames. value-by frames v (m′ frames) (c frames);
+          few = let k = more-left in omega arith;
+          long = length-set g global v ∙ e .long;
+        }
+
+    ended-on : (frames : List ℕ) (a : Answer) → its frames .answer ≡ a → ((v : ℕ) → a ≡ value v → ⊥) → record { called = its frames; globals = g } ≡ enters names (m₀ frames) g₀
+    unfolding entersOn
+    ended-on frames (value v) p n = absurd (n v refl)
+    ended-on frames (refused k) p n = answered frames p
+    ended-on frames done p n = answered frames p
+    ended-on frames (ended k pc steps) p n = answered frames p
+
+    pub entered-some : (x : List ℕ → Called) → ((frames : List ℕ) → x frames ≡ call frames) → ((frames : List ℕ) (v : ℕ) → x frames .answer ≡ value v → ⊥)
+        → (frames : List ℕ) → record { called = x frames; globals = g } ≡ enters names (m₀ frames) g₀
+    entered-some x c n frames =
+        let is : x frames ≡ its frames = c frames ∙ call-is frames in
+        ap (λ (y : Called). record { called = y; globals = g }) is ∙ ended-on frames (its frames .answer) refl (λ v z. n frames v (ap (λ (y : Called). y .answer) is ∙ z))
+
+  pub few-names : i ≤ length s
+  few-names = let k = e .few in let n = names-in s in omega arith
+
+-- a reply that has no value
+pub done-says : (r : Reply) → r ≡ Reply.Done → (v : ℕ) → saidOf r ≡ value v → ⊥
+unfolding saidOf
+done-says r e v z = let q : _≡_ {A = Answer} done (value v) = rw e at z in let n : _≡_ {A = ℕ} 0 1 = cc in absurd (omega arith)
+
+pub refused-says : (r : Reply) (why : Refusal) → r ≡ Reply.Refused why → (v : ℕ) → saidOf r ≡ value v → ⊥
+unfolding saidOf
+refused-says r why e v z = let q : _≡_ {A = Answer} (refused (numberOfRefusal why)) (value v) = rw e at z in let n : _≡_ {A = ℕ} 0 1 = cc in absurd (omega arith)

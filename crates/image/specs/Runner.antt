@@ -1,0 +1,114 @@
+-- Document 01, 'Instruction and image': the image runner, from the bytes of an input to those of the output. Definitions only.
+use Prim.Native.Nat.{ℕ, _*_}
+use mathlib.Core.Path.{_≡_}
+use mathlib.Core.Bool.{Bool, true, false, cond, _&&_}
+use mathlib.Core.List.{List, [], _∷_}
+use lib.ListN.{length, set, replicate}
+use lib.Dec.{leb}
+use Rattle.memory.specs.Lists.{over}
+use Rattle.gc.specs.Lent.{pageSize}
+use Rattle.text.specs.declared.Head.{Head}
+use Rattle.text.specs.declared.sections.Section.the-variants.{Code, Globals, SwitchFirsts, SwitchEnds, SwitchEntries, LookupFirsts, LookupDefaults, LookupEnds, LookupEntries}
+use Rattle.text.specs.Lines.{linesOf}
+use Rattle.text.specs.Text.{textOk, headOf}
+use Rattle.text.specs.Sections.{sectionIn}
+use Rattle.text.specs.Names.{Name, namesOf}
+use Rattle.report.specs.declared.Summary.{Summary}
+use Rattle.report.specs.Report.{reportOf, refusalOf}
+use Rattle.program.specs.Image.{Image, tablesOf, imageOf}
+use Rattle.vm.specs.declared.State.{State}
+use Rattle.vm.specs.Machine.{Lent, Machine, Answer, ended, value, done, refused, Called, run, host, intern, perform, Started, declined, begun, start}
+use Rattle.vm.specs.Told.{lentOf}
+
+-- ---- the image that a text says
+
+-- with these globals: a name's is 0 until it is interned
+abbrev pub imageWith : List ℕ → List ℕ → Image
+imageWith globals s =
+    imageOf (sectionIn Code s) globals (tablesOf (sectionIn SwitchFirsts s) (sectionIn SwitchEnds s) (sectionIn SwitchEntries s))
+    (tablesOf (sectionIn LookupFirsts s) (sectionIn LookupEnds s) (sectionIn LookupEntries s)) (sectionIn LookupDefaults s)
+
+abbrev pub imageIn : List ℕ → Image
+imageIn s = imageWith (sectionIn Globals s) s
+
+-- 10: 'The runner: 8 pages, 4,096 words, 4,096 frames'; what else it has no room for is past the machine's own limits
+unfoldable pub roomFor : Head → List ℕ → Bool
+roomFor h s =
+    (leb (h .pages) 8 && (leb (h .frames) 4096 && leb (h .slots) 4096))
+    && ((leb (length (sectionIn Code s)) 4096 && leb (length (sectionIn Globals s)) 4096)
+    && ((leb (length (sectionIn SwitchFirsts s)) 256 && leb (length (sectionIn SwitchEntries s)) 4096)
+    && (leb (length (sectionIn LookupFirsts s)) 256 && leb (length (sectionIn LookupEntries s)) 4096)))
+
+-- the buffers that the header asks for
+abbrev pub lentFor : Head → Lent
+lentFor h = lentOf (replicate (h .frames) 0) (replicate (h .pages * pageSize) 0) (replicate (h .slots) 0) (replicate (h .slots) 0)
+
+-- ---- names
+
+-- what the last call answered, and the globals
+pub record Entered : Type 0 where
+  pub called : Called
+  pub globals : List ℕ
+
+-- after the call of one name: its value goes to its global, and the rest follows; a refusal ends it
+unfoldable pub entersOn : Answer → Called → List ℕ → ℕ → (Machine → List ℕ → Entered) → Entered
+entersOn (value v) c g global rest = rest (c .machine) (set g global v)
+entersOn (refused e) c g global rest = record { called = c; globals = g }
+entersOn done c g global rest = record { called = c; globals = g }
+entersOn (ended e pc steps) c g global rest = record { called = c; globals = g }
+
+-- 'each interning is a call of its own, and names before a refused one stay'
+unfoldable pub enters : List Name → Machine → List ℕ → Entered
+enters [] m g = record { called = record { answer = done; machine = m }; globals = g }
+enters (name ∷ names) m g =
+    let c = perform (host (intern (name .bytes))) m in
+    entersOn (c .answer) c g (name .global) (enters names)
+
+-- ---- the output
+
+abbrev pub summaryOf : ℕ → ℕ → ℕ → State → Summary
+summaryOf e pc steps s = record { end = e; pc = pc; steps = steps; depth = s .depth; pushed = s .gc .pushed; len = s .gc .len; strings = s .strings .len }
+
+-- 'A refusal, of an interning too, is its number alone in two digits'
+unfoldable pub replyText : Answer → List ℕ
+replyText (refused e) = refusalOf e
+replyText (value v) = []
+replyText done = []
+replyText (ended e pc steps) = []
+
+-- of a run: its report, or the number by which it was refused
+unfoldable pub ranText : Answer → State → List ℕ
+ranText (ended e pc steps) s = reportOf (summaryOf e pc steps s) (s .regs)
+ranText (refused e) s = refusalOf e
+ranText (value v) s = []
+ranText done s = []
+
+abbrev pub toldText : Called → List ℕ
+toldText c = ranText (c .answer) (c .machine .state)
+
+-- `after` begins with a text of r bytes and is else as `before` was
+abbrev pub Says : List ℕ → List ℕ → List ℕ → ℕ → Type 0
+Says before text after r = (r ≡ length text) × (after ≡ over text before)
+
+-- 'It runs from pc 0' once all names are there
+unfoldable pub enteredText : Answer → List ℕ → Head → Entered → List ℕ
+enteredText done s h x = toldText (perform (run (imageWith (x .globals) s) (h .budget)) (x .called .machine))
+enteredText (refused e) s h x = replyText (refused e)
+enteredText (value v) s h x = replyText (value v)
+enteredText (ended e pc steps) s h x = replyText (ended e pc steps)
+
+abbrev pub namedText : List ℕ → Head → Entered → List ℕ
+namedText s h x = enteredText (x .called .answer) s h x
+
+-- 'An image is loaded or refused before its names are interned'
+unfoldable pub startedText : List ℕ → Head → Started → List ℕ
+startedText s h (declined e) = replyText (refused e)
+startedText s h (begun m) = namedText s h (enters (namesOf 0 (linesOf s)) m (sectionIn Globals s))
+
+unfoldable pub imageText : Bool → List ℕ → Head → List ℕ
+imageText true s h = startedText s h (start (imageIn s) (h .base) (lentFor h))
+imageText false s h = refusalOf 10
+
+-- 'The runner gives 19 first, then the load's numbers, then those of interning'
+unfoldable pub answerOf : List ℕ → List ℕ
+answerOf s = cond (textOk s) (imageText (roomFor (headOf s) s) s (headOf s)) (refusalOf 19)
