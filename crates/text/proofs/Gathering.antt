@@ -11,8 +11,8 @@ use native.Mathlib.Omega.{arith}
 use Rattle.memory.specs.Lists.{over, write}
 use Rattle.memory.proofs.Over.{sets-write, write-append}
 use Rattle.text.specs.Digits.{field, numbers}
-use Rattle.text.specs.Lines.{Lines, linesOf, kindOf, payloadOf}
-use Rattle.text.specs.Sections.{Added, ofKind, targetsIn, valuesIn, adds, sectionOf, sectionIn}
+use Rattle.text.specs.Lines.{linesOf, kindOf}
+use Rattle.text.specs.Sections.{Added, ofKind, adds, sectionOf, sectionIn}
 use Rattle.text.specs.declared.sections.Section.{Section}
 use Rattle.text.specs.declared.sections.Section.the-variants.{Code, Globals, SwitchFirsts, SwitchEnds, SwitchEntries, LookupFirsts, LookupDefaults, LookupEnds, LookupEntries}
 use Rattle.text.proofs.Splitting.{Ends, lineAt, to-line, to-cut, to-none, length-line, payload-at}

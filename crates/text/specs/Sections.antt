@@ -11,7 +11,7 @@ use Rattle.text.specs.Lines.{Lines, none, cut, line, linesOf, kindOf, pa
 use Rattle.text.specs.declared.sections.Section.{Section}
 use Rattle.text.specs.declared.sections.Section.the-variants.{Code, Globals, SwitchFirsts, SwitchEnds, SwitchEntries, LookupFirsts, LookupDefaults, LookupEnds, LookupEntries}
 
--- what a line gives if it is of a kind, and nothing else
+-- numbers that only a line of a kind gives
 abbrev pub ofKind : ℕ → ℕ → List ℕ → List ℕ
 ofKind kind k xs = cond (eqb k kind) xs []
 
@@ -48,8 +48,9 @@ unfoldable pub sectionOf : Section → ℕ → ℕ → Lines → List ℕ
 sectionOf section targets values none = []
 sectionOf section targets values cut = []
 sectionOf section targets values (line l more) =
-    adds section (targetsWith targets (kindOf l) (payloadOf l)) (valuesWith values (kindOf l) (payloadOf l)) (kindOf l) (payloadOf l)
-    ++ sectionOf section (targetsWith targets (kindOf l) (payloadOf l)) (valuesWith values (kindOf l) (payloadOf l)) more
+    let t = targetsWith targets (kindOf l) (payloadOf l) in
+    let v = valuesWith values (kindOf l) (payloadOf l) in
+    adds section t v (kindOf l) (payloadOf l) ++ sectionOf section t v more
 
 -- the whole section of a text
 abbrev pub sectionIn : Section → List ℕ → List ℕ
