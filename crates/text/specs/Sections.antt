@@ -1,11 +1,9 @@
 -- Document 01, 'Instruction and image': what the lines of an image hold, section by section, in line order. Definitions only.
 use Prim.Native.Nat.{ℕ, _+_, _-_, _/_}
-use mathlib.Core.Path.{_≡_}
 use mathlib.Core.Bool.{cond}
 use mathlib.Core.List.{List, [], _∷_, _++_}
 use lib.ListN.{length, drop}
 use lib.Dec.{eqb}
-use Rattle.memory.specs.Lists.{write}
 use Rattle.text.specs.Digits.{field, numbers}
 use Rattle.text.specs.Lines.{Lines, none, cut, line, linesOf, kindOf, payloadOf}
 use Rattle.text.specs.declared.sections.Section.{Section}
@@ -55,8 +53,3 @@ sectionOf section targets values (line l more) =
 -- the whole section of a text
 abbrev pub sectionIn : Section → List ℕ → List ℕ
 sectionIn section s = sectionOf section 0 0 (linesOf s)
-
--- `after` is `before` with numbers written from the n-th on, as far as it goes; r counts them all
-pub record Added (before : List ℕ) (n : ℕ) (xs after : List ℕ) (r : ℕ) : Type 0 where
-  pub count : r ≡ n + length xs
-  pub is : after ≡ write n xs before
