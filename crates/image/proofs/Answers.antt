@@ -8,7 +8,7 @@ use native.Mathlib.Nat.{zero-add}
 use lib.ListN.{length, take, set, replicate, length-replicate}
 use lib.Dec.{leb}
 use borrow.Author.Tests.{leb-true}
-use Rattle.memory.specs.Lists.{over, write}
+use Rattle.memory.specs.Lists.{over, write, Written}
 use Rattle.memory.proofs.Over.{take-over}
 use Rattle.anomaly.proofs.Numbers.{both}
 use Rattle.anomaly.specs.declared.Refusal.{Refusal}
@@ -19,8 +19,7 @@ use Rattle.text.specs.Lines.{linesOf}
 use Rattle.text.specs.Text.{textOk}
 use Rattle.text.specs.Sections.{sectionIn}
 use Rattle.text.specs.Names.{Name, namesOf}
-use Rattle.report.specs.Hex.{hexOf}
-use Rattle.report.specs.Report.{refusalOf}
+use Rattle.report.specs.Report.{longest, refusalOf}
 use Rattle.program.specs.Image.{Image, Tables, tablesOf, imageOf}
 use Rattle.vm.specs.Machine.{Lent, Machine, Answer, ended, value, done, refused, Called, run, host, intern, perform, Started, declined, begun, start, blank}
 use Rattle.vm.specs.declared.State.{State}
@@ -116,21 +115,12 @@ says-as before after r t u e h = rw (← e) h
 
 -- ---- the text
 
-length-refusal : (k : ℕ) → length (refusalOf k) ≡ 3
-unfolding refusalOf hexOf
-length-refusal k = refl
-
-pub refusal-says : (k : ℕ) (before after : List ℕ) (r : ℕ) → r ≡ 0 + 3 → after ≡ write 0 (refusalOf k) before → Says before (refusalOf k) after r
+pub written-says : (text before after : List ℕ) (r : ℕ) → Written before 0 text after r → r ≤ longest → Says before text after r
 unfolding write
-refusal-says k before after r e w = (e ∙ sym (length-refusal k), w)
+written-says text before after r w h = (w .ends ∙ zero-add (length text), w .is, h)
 
-pub report-says : (text before after : List ℕ) (r : ℕ) → r ≡ 0 + length text → after ≡ write 0 text before → Says before text after r
-unfolding write
-report-says text before after r e w = (e ∙ zero-add (length text), w)
-
-pub from-the-start : (text before : List ℕ) → write 0 text before ≡ over text before
-unfolding write
-from-the-start text before = refl
+pub refusal-says : (k : ℕ) (before after : List ℕ) (r : ℕ) → Written before 0 (refusalOf k) after r → r ≡ 0 + 3 → Says before (refusalOf k) after r
+refusal-says k before after r w e = written-says (refusalOf k) before after r w (omega arith)
 
 -- zeros, and the first of them
 pub take-zeros : (n k : ℕ) → n ≤ k → take {A = ℕ} n (replicate k 0) ≡ replicate n 0

@@ -1,5 +1,5 @@
 -- Document 01, 'Instruction and image': the image runner, from the bytes of an input to those of the output. Definitions only.
-use Prim.Native.Nat.{ℕ, _*_}
+use Prim.Native.Nat.{ℕ, _*_, _≤_}
 use mathlib.Core.Path.{_≡_}
 use mathlib.Core.Bool.{Bool, true, false, cond, _&&_}
 use mathlib.Core.List.{List, [], _∷_}
@@ -14,7 +14,7 @@ use Rattle.text.specs.Text.{textOk, headOf}
 use Rattle.text.specs.Sections.{sectionIn}
 use Rattle.text.specs.Names.{Name, namesOf}
 use Rattle.report.specs.declared.Summary.{Summary}
-use Rattle.report.specs.Report.{reportOf, refusalOf}
+use Rattle.report.specs.Report.{reportOf, longest, refusalOf}
 use Rattle.program.specs.Image.{Image, tablesOf, imageOf}
 use Rattle.vm.specs.declared.State.{State}
 use Rattle.vm.specs.Machine.{Lent, Machine, Answer, ended, value, done, refused, Called, run, host, intern, perform, Started, declined, begun, start}
@@ -86,9 +86,9 @@ ranText done s = []
 abbrev pub toldText : Called → List ℕ
 toldText c = ranText (c .answer) (c .machine .state)
 
--- `after` begins with a text of r bytes and is else as `before` was
+-- `after` begins with a text of r bytes, no longer than the longest report, and is else as `before` was
 abbrev pub Says : List ℕ → List ℕ → List ℕ → ℕ → Type 0
-Says before text after r = (r ≡ length text) × (after ≡ over text before)
+Says before text after r = (r ≡ length text) × (after ≡ over text before) × (r ≤ longest)
 
 -- 'It runs from pc 0' once all names are there
 unfoldable pub enteredText : Answer → List ℕ → Head → Entered → List ℕ

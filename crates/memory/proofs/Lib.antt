@@ -1,5 +1,6 @@
 -- The laws of lists written over lists and of numbers as bytes.
 pub mod Over
+pub mod Writes
 pub mod Bytes
 pub mod Same
 pub mod Fills

@@ -1,11 +1,8 @@
 -- Document 01, 'Instruction and image': what is printed of a run and of a refusal. Definitions only.
 use Prim.Native.Nat.{ℕ, suc, _+_, _*_, _/_}
-use mathlib.Core.Path.{_≡_}
 use mathlib.Core.Bool.{cond}
 use mathlib.Core.List.{List, [], _∷_, _++_}
-use lib.ListN.{length}
 use lib.Dec.{eqb}
-use Rattle.memory.specs.Lists.{write}
 use Rattle.gc.specs.Lent.{pageSize}
 use Rattle.report.specs.Hex.{hexOf}
 use Rattle.report.specs.declared.Summary.{Summary}
@@ -40,9 +37,3 @@ longest = 27 + 19 * 32 + 21
 -- 'A refusal, of an interning too, is its number alone in two digits.'
 unfoldable pub refusalOf : ℕ → List ℕ
 refusalOf number = hexOf 2 number ++ lineFeed
-
--- `after` is `before` with a text of n bytes written over it from `at` on and else untouched; `place` is where the text ends
-pub record Written (before : List ℕ) (at : ℕ) (text : List ℕ) (n : ℕ) (after : List ℕ) (place : ℕ) : Type 0 where
-  pub ends : place ≡ at + n
-  pub long : length text ≡ n
-  pub is : after ≡ write at text before

@@ -1,12 +1,11 @@
 // The text that ends a run: where the machine stands, or the number of a refusal. Every line ends
 // with a line feed.
 ghost use mathlib.Core.Path.{_≡_};
-ghost use mathlib.Core.List.{_∷_, []};
 ghost use Prim.Native.Nat.{_+_, _*_, _≤_, _<_};
 ghost use lib.ListN.{length};
-ghost use Rattle.memory.specs.Lists.{write};
+ghost use Rattle.memory.specs.Lists.{Written};
 ghost use Rattle.report.specs.Hex.{digitOf, hexOf};
-ghost use Rattle.report.specs.Report.{Written, endLine, registerLine, registerLines, stateLine, reportOf, longest, refusalOf};
+ghost use Rattle.report.specs.Report.{lineFeed, endLine, registerLine, registerLines, stateLine, reportOf, longest, refusalOf};
 
 // The length of the longest report: 27 bytes of the first line, 19 for each of 32 registers, 21 of
 // the last line.
@@ -35,7 +34,7 @@ fn digit(v: u64) -> u8
 // The lowest `count` digits of `v`, written from `at` on; the place after them.
 fn put_hex(out: &mut [u8], at: usize, count: usize, v: u64) -> usize
     requires { ⌜ (count ≤ 16) × (at + count ≤ length (now out)) ⌝ }
-    ensures { λ r. ⌜ Written (now (out .entry)) at (hexOf count v) count (now (out .exit)) r ⌝ }
+    ensures { λ r. ⌜ Written (now (out .entry)) at (hexOf count v) (now (out .exit)) r × (r ≡ at + count) ⌝ }
 {
     let mut left = count;
     let mut i = at;
@@ -49,7 +48,7 @@ fn put_hex(out: &mut [u8], at: usize, count: usize, v: u64) -> usize
 
 fn put_line_feed(out: &mut [u8], at: usize) -> usize
     requires { ⌜ at + 1 ≤ length (now out) ⌝ }
-    ensures { λ r. ⌜ Written (now (out .entry)) at (10 ∷ []) 1 (now (out .exit)) r ⌝ }
+    ensures { λ r. ⌜ Written (now (out .entry)) at lineFeed (now (out .exit)) r × (r ≡ at + 1) ⌝ }
 {
     out[at] = 10;
     at + 1
@@ -58,7 +57,7 @@ fn put_line_feed(out: &mut [u8], at: usize) -> usize
 // A register's line; nothing for one that is 0.
 fn put_register(out: &mut [u8], at: usize, number: usize, value: u64) -> usize
     requires { ⌜ at + 19 ≤ length (now out) ⌝ }
-    ensures { λ r. ⌜ Written (now (out .entry)) at (registerLine number value) (length (registerLine number value)) (now (out .exit)) r ⌝ }
+    ensures { λ r. ⌜ Written (now (out .entry)) at (registerLine number value) (now (out .exit)) r × (r ≤ at + 19) ⌝ }
 {
     if value == 0 {
         return at;
@@ -70,7 +69,7 @@ fn put_register(out: &mut [u8], at: usize, number: usize, value: u64) -> usize
 
 fn put_registers(out: &mut [u8], at: usize, regs: &[u64]) -> usize
     requires { ⌜ at + 19 * length (now regs) ≤ length (now out) ⌝ }
-    ensures { λ r. ⌜ Written (now (out .entry)) at (registerLines 0 (now (regs .entry))) (length (registerLines 0 (now (regs .entry)))) (now (out .exit)) r ⌝ }
+    ensures { λ r. ⌜ Written (now (out .entry)) at (registerLines 0 (now (regs .entry))) (now (out .exit)) r × (r ≤ at + 19 * length (now (regs .entry))) ⌝ }
 {
     let mut i: usize = 0;
     let mut place = at;
@@ -84,7 +83,7 @@ fn put_registers(out: &mut [u8], at: usize, regs: &[u64]) -> usize
 // The end's number, pc and steps.
 fn put_end(out: &mut [u8], at: usize, s: Summary) -> usize
     requires { ⌜ at + 27 ≤ length (now out) ⌝ }
-    ensures { λ r. ⌜ Written (now (out .entry)) at (endLine s) 27 (now (out .exit)) r ⌝ }
+    ensures { λ r. ⌜ Written (now (out .entry)) at (endLine s) (now (out .exit)) r × (r ≡ at + 27) ⌝ }
 {
     let a = put_hex(out, at, 2, s.end);
     let b = put_hex(out, a, 16, s.pc as u64);
@@ -95,7 +94,7 @@ fn put_end(out: &mut [u8], at: usize, s: Summary) -> usize
 // Depth, pages, the last page's length and the strings.
 fn put_state(out: &mut [u8], at: usize, s: Summary) -> usize
     requires { ⌜ at + 21 ≤ length (now out) ⌝ }
-    ensures { λ r. ⌜ Written (now (out .entry)) at (stateLine s) 21 (now (out .exit)) r ⌝ }
+    ensures { λ r. ⌜ Written (now (out .entry)) at (stateLine s) (now (out .exit)) r × (r ≡ at + 21) ⌝ }
 {
     let pages = s.pushed / gc::PAGE_SIZE;
     let a = put_hex(out, at, 4, s.depth as u64);
@@ -108,7 +107,7 @@ fn put_state(out: &mut [u8], at: usize, s: Summary) -> usize
 // The report of a run with its 32 registers, written from `at` on; the place after it.
 pub fn put_report(out: &mut [u8], at: usize, s: Summary, regs: &[u64]) -> usize
     requires { ⌜ (length (now regs) ≡ 32) × (at + longest ≤ length (now out)) ⌝ }
-    ensures { λ r. ⌜ (r ≡ at + length (reportOf s (now (regs .entry)))) × (now (out .exit) ≡ write at (reportOf s (now (regs .entry))) (now (out .entry))) × (r ≤ at + longest) ⌝ }
+    ensures { λ r. ⌜ Written (now (out .entry)) at (reportOf s (now (regs .entry))) (now (out .exit)) r × (r ≤ at + longest) ⌝ }
 {
     let a = put_end(out, at, s);
     let b = put_registers(out, a, regs);
@@ -118,7 +117,7 @@ pub fn put_report(out: &mut [u8], at: usize, s: Summary, regs: &[u64]) -> usize
 // The number of a refusal alone, written from `at` on; the place after it.
 pub fn put_refusal(out: &mut [u8], at: usize, number: u64) -> usize
     requires { ⌜ at + 3 ≤ length (now out) ⌝ }
-    ensures { λ r. ⌜ (r ≡ at + 3) × (now (out .exit) ≡ write at (refusalOf number) (now (out .entry))) ⌝ }
+    ensures { λ r. ⌜ Written (now (out .entry)) at (refusalOf number) (now (out .exit)) r × (r ≡ at + 3) ⌝ }
 {
     let a = put_hex(out, at, 2, number);
     put_line_feed(out, a)

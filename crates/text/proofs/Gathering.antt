@@ -6,13 +6,14 @@ use mathlib.Core.List.{List, [], _∷_, _++_}
 use lib.ListN.{length, drop, set, length-append, length-drop}
 use lib.Seq.{set-out, drop-drop}
 use lib.Dec.{eqb}
-use native.Mathlib.Nat.{add-zero, mul-suc, mul-div-le, div-le-self}
+use native.Mathlib.Nat.{mul-suc, mul-div-le, div-le-self}
 use native.Mathlib.Omega.{arith}
-use Rattle.memory.specs.Lists.{over, write}
-use Rattle.memory.proofs.Over.{sets-write, write-append}
+use Rattle.memory.specs.Lists.{over, write, Written}
+use Rattle.memory.proofs.Over.{sets-write}
+use Rattle.memory.proofs.Writes.{write-behind}
 use Rattle.text.specs.Digits.{field, numbers}
-use Rattle.text.specs.Lines.{Lines, linesOf, kindOf, payloadOf}
-use Rattle.text.specs.Sections.{Added, ofKind, targetsIn, valuesIn, adds, sectionOf, sectionIn}
+use Rattle.text.specs.Lines.{linesOf, kindOf}
+use Rattle.text.specs.Sections.{ofKind, adds, sectionOf, sectionIn}
 use Rattle.text.specs.declared.sections.Section.{Section}
 use Rattle.text.specs.declared.sections.Section.the-variants.{Code, Globals, SwitchFirsts, SwitchEnds, SwitchEntries, LookupFirsts, LookupDefaults, LookupEnds, LookupEntries}
 use Rattle.text.proofs.Splitting.{Ends, lineAt, to-line, to-cut, to-none, length-line, payload-at}
@@ -20,23 +21,11 @@ use Rattle.text.proofs.Splitting.{Ends, lineAt, to-line, to-cut, to-non
 -- ---- one number, or none
 
 module _ (buf : List ℕ) (n v : ℕ) (here : Bool) where
-  pub added-one : here ≡ true → Added buf n (cond here (v ∷ []) []) (set buf n v) (n + 1)
-  added-one h = rw h (record { count = refl; is = sets-write (v ∷ []) buf n })
+  pub added-one : here ≡ true → Written buf n (cond here (v ∷ []) []) (set buf n v) (n + 1)
+  added-one h = rw h (record { ends = refl; is = sets-write (v ∷ []) buf n })
 
-  pub added-past : here ≡ true → length buf ≤ n → Added buf n (cond here (v ∷ []) []) buf (n + 1)
-  added-past h past = rw h (record { count = refl; is = sym (set-out buf n v past) ∙ sets-write (v ∷ []) buf n })
-
-pub added-none : (buf : List ℕ) (n : ℕ) (xs : List ℕ) → xs ≡ [] → Added buf n xs buf n
-added-none buf n xs h = rw h (record { count = sym (add-zero n); is = sets-write [] buf n })
-
--- what is added behind what was added
-added-more : (buf mid : List ℕ) (n i : ℕ) (xs ys : List ℕ) → Added buf n xs mid i → write i ys mid ≡ write n (xs ++ ys) buf
-added-more buf mid n i xs ys p = rw (p .is, p .count) (write-append n xs ys buf)
-
-infixl 5 _and-then_
-pub _and-then_ : {buf mid after : List ℕ} {n i j : ℕ} {xs ys : List ℕ} → Added buf n xs mid i → Added mid i ys after j → Added buf n (xs ++ ys) after j
-_and-then_ {buf} {mid} {after} {n} {i} {j} {xs} {ys} p q =
-    record { count = omega (arith, p .count, q .count, length-append xs ys); is = q .is ∙ added-more buf mid n i xs ys p }
+  pub added-past : here ≡ true → length buf ≤ n → Written buf n (cond here (v ∷ []) []) buf (n + 1)
+  added-past h past = rw h (record { ends = refl; is = sym (set-out buf n v past) ∙ sets-write (v ∷ []) buf n })
 
 -- ---- the entries of a table's line
 
@@ -93,7 +82,7 @@ module _ (p : List ℕ) (width : ℕ) (buf₀ : List ℕ) (n : ℕ) where
     pub putting-room : 0 < left → 0 < width → at + width ≤ length p
     putting-room h w = omega (arith, g .room, one-less h)
 
-    pub putting-next : 0 < left → 0 < width → (v r : ℕ) (after : List ℕ) → v ≡ field at width p → Added buf m (v ∷ []) after r → length after ≡ length buf →
+    pub putting-next : 0 < left → 0 < width → (v r : ℕ) (after : List ℕ) → v ≡ field at width p → Written buf m (v ∷ []) after r → length after ≡ length buf →
         Putting p width xs buf₀ n after (left - 1) (at + width) r
     unfolding numbers
     putting-next h w v r after is a kept =
@@ -102,17 +91,17 @@ module _ (p : List ℕ) (width : ℕ) (buf₀ : List ℕ) (n : ℕ) where
         let rest : write m (field at width p ∷ more) buf ≡ write n xs buf₀ = rw (suc-left, drop-drop width at p) at (g .rest) in
         record {
           room = omega (arith, g .room, one-less h);
-          count = omega (arith, g .count, a .count);
-          rest = added-more buf after m r (v ∷ []) more a ∙ rw is rest;
+          count = omega (arith, g .count, a .ends);
+          rest = write-behind buf after m r (v ∷ []) more a ∙ rw is rest;
           long = kept ∙ g .long;
         }
 
-    pub putting-end : left ≤ 0 → Added buf₀ n xs buf m
+    pub putting-end : left ≤ 0 → Written buf₀ n xs buf m
     unfolding numbers
     putting-end h =
         let none : left ≡ 0 = omega arith in
         let rest : write m [] buf ≡ write n xs buf₀ = rw none at (g .rest) in
-        record { count = omega (arith, g .count); is = sets-write [] buf m ∙ rest }
+        record { ends = omega (arith, g .count); is = sets-write [] buf m ∙ rest }
 
 -- ---- what a line adds
 
@@ -184,7 +173,7 @@ module _ (s : List ℕ) (section : Section) (buf₀ : List ℕ) where
           (has-targets : more-targets ≡ cond (eqb k 3) ((length (lineAt s b e) - 16) / 4) 0)
           (has-values : more-values ≡ cond (eqb k 4) ((length (lineAt s b e) - 32) / 16) 0) where
         pub gather-next : e < length s → (after : List ℕ) (r : ℕ) →
-            Added buf n (adds section (targets + more-targets) (values + more-values) k (lineAt s b e)) after r → length after ≡ length buf →
+            Written buf n (adds section (targets + more-targets) (values + more-values) k (lineAt s b e)) after r → length after ≡ length buf →
             Gathered s section buf₀ after (targets + more-targets) (values + more-values) r (e + 1)
         unfolding sectionOf
         gather-next h after r a kept =
@@ -206,8 +195,8 @@ module _ (s : List ℕ) (section : Section) (buf₀ : List ℕ) where
               within = omega arith;
               few-targets = omega (arith, entries-fit s at e b ends begins (eqb k 3) 16 4 targets more-targets (g .few-targets) has-targets);
               few-values = omega (arith, entries-fit s at e b ends begins (eqb k 4) 32 16 values more-values (g .few-values) has-values);
-              few = omega (arith, a .count, adds-few section t v k (lineAt s b e), numbers-fit s at e b ends begins n (g .few), ends .0);
-              count = omega (arith, a .count, rw same at (g .count), length-append here more);
-              rest = added-more buf after n r here more a ∙ rw same at (g .rest);
+              few = omega (arith, a .ends, adds-few section t v k (lineAt s b e), numbers-fit s at e b ends begins n (g .few), ends .0);
+              count = omega (arith, a .ends, rw same at (g .count), length-append here more);
+              rest = write-behind buf after n r here more a ∙ rw same at (g .rest);
               long = kept ∙ g .long;
             }

@@ -1,16 +1,15 @@
 -- The names of a text as a list: how many there are, the next one, how long it is, and where its global stands. Assumes nothing.
 use Prim.Native.Nat.{ℕ, zero, suc, _+_, _*_, _/_, _<_, _≤_}
-use mathlib.Core.Path.{_≡_, refl, sym, ap, _∙_}
+use mathlib.Core.Path.{_≡_, refl, sym, ap}
 use mathlib.Core.Bool.{Bool, true, false, cond}
 use mathlib.Core.Option.{Option, none, some}
 use mathlib.Core.List.{List, [], _∷_, _++_}
 use lib.ListN.{length, drop, length-append, length-drop}
 use lib.Dec.{eqb}
-use native.Mathlib.Numerals.{add-one}
 use native.Mathlib.Omega.{arith}
 use Rattle.text.specs.Lines as Lines
 use Rattle.text.specs.Lines.{Lines, cut, line, before, linesOf, kindOf, payloadOf}
-use Rattle.text.specs.Sections.{adds, sectionOf, sectionIn, targetsWith, valuesWith}
+use Rattle.text.specs.Sections.{adds, sectionOf, targetsWith, valuesWith}
 use Rattle.text.specs.Names.{bytesIn, Name, named, namesOf, nth, nameOf, bytesOf}
 use Rattle.text.specs.declared.sections.Section.the-variants.{Globals}
 use Rattle.text.proofs.Gathering.{length-numbers}

@@ -2,17 +2,17 @@
 use Prim.Native.Nat.{ℕ, zero, suc, _+_, _-_, _*_, _/_, _<_, _≤_, min}
 use mathlib.Core.Path.{_≡_, refl, sym, ap, _∙_}
 use mathlib.Core.Bool.{Bool, true, false, cond, _&&_}
-use mathlib.Core.Option.{Option, none, some}
+use mathlib.Core.Option.{none, some}
 use mathlib.Core.List.{List, [], _∷_, _++_}
 use lib.ListN.{length, drop, length-append}
 use lib.Dec.{eqb}
 use native.Mathlib.Nat.{sub-zero}
 use native.Mathlib.Omega.{arith}
-use borrow.Author.Tests.{eqb-true, eqb-false}
-use Rattle.memory.specs.Lists.{over, write}
+use borrow.Author.Tests.{eqb-true}
+use Rattle.memory.specs.Lists.{over, write, Written}
 use Rattle.text.specs.Digits.{field}
 use Rattle.text.specs.Lines.{linesOf, kindOf, payloadOf}
-use Rattle.text.specs.Sections.{Added, ofKind, adds}
+use Rattle.text.specs.Sections.{adds}
 use Rattle.text.specs.Names.{bytesIn, Name, named, namesOf, nth, nameOf, Found}
 use Rattle.text.specs.declared.names.Spot.{Spot}
 use Rattle.text.specs.declared.names.Spot.the-variants as Spot
@@ -35,8 +35,8 @@ module _ (p out₀ : List ℕ) where
   pub bytes-end : (out : List ℕ) (left at n : ℕ) → Putting p 2 (bytesIn p) out₀ 0 out left at n → left ≤ 0 → (n ≡ length (bytesIn p)) × (out ≡ over (bytesIn p) out₀)
   unfolding write
   bytes-end out left at n g h =
-      let a : Added out₀ 0 (bytesIn p) out n = putting-end p 2 out₀ 0 (bytesIn p) out left at n g h in
-      (omega (arith, a .count), a .is)
+      let a : Written out₀ 0 (bytesIn p) out n = putting-end p 2 out₀ 0 (bytesIn p) out left at n g h in
+      (omega (arith, a .ends), a .is)
 
 -- ---- a name that was found
 

@@ -1,6 +1,6 @@
 -- Lines found byte by byte, and the line that a text begins with. Assumes nothing.
 use Prim.Native.Nat.{ℕ, zero, suc, _+_, _-_, _<_, _≤_, min}
-use mathlib.Core.Path.{_≡_, refl, sym, ap, _∙_}
+use mathlib.Core.Path.{_≡_, refl, ap, _∙_}
 use mathlib.Core.Bool.{Bool, true, false}
 use mathlib.Core.List.{List, [], _∷_}
 use lib.ListN.{length, take, drop, getD, drop-of-length-le, length-take, length-drop}
@@ -11,7 +11,7 @@ use native.Mathlib.Numerals.{add-one}
 use native.Mathlib.Omega.{arith}
 use borrow.Author.Tests.{eq-eqb, ne-eqb, ltb-true, ltb-false}
 use Rattle.memory.specs.Lists.{part}
-use Rattle.text.specs.Lines.{Lines, none, cut, line, before, linesOf, upTo, payloadOf}
+use Rattle.text.specs.Lines.{none, cut, line, before, linesOf, upTo, payloadOf}
 
 -- ---- the end of a line, byte by byte
 

@@ -2,7 +2,7 @@
 use Prim.Native.Nat.{ℕ, zero, suc, _+_, _-_, _*_, _%_}
 use mathlib.Core.Bool.{Bool, true, cond, _&&_}
 use mathlib.Core.List.{List, [], _∷_}
-use lib.ListN.{take, drop}
+use lib.ListN.{drop}
 use lib.Dec.{ltb}
 use Rattle.memory.specs.Lists.{part}
 

@@ -1,6 +1,6 @@
 -- Document 01, 'Instruction and image': the lines of a text, their kinds and payloads. Definitions only.
 use Prim.Native.Nat.{ℕ, suc, _-_, _%_}
-use mathlib.Core.Bool.{Bool, true, false, cond, _&&_, _||_}
+use mathlib.Core.Bool.{Bool, cond, _&&_, _||_}
 use mathlib.Core.List.{List, [], _∷_}
 use lib.ListN.{length, drop}
 use lib.Dec.{eqb, leb}

@@ -1,17 +1,15 @@
 -- Document 01, 'Instruction and image': what the lines of an image hold, section by section, in line order. Definitions only.
 use Prim.Native.Nat.{ℕ, _+_, _-_, _/_}
-use mathlib.Core.Path.{_≡_}
 use mathlib.Core.Bool.{cond}
 use mathlib.Core.List.{List, [], _∷_, _++_}
 use lib.ListN.{length, drop}
 use lib.Dec.{eqb}
-use Rattle.memory.specs.Lists.{write}
 use Rattle.text.specs.Digits.{field, numbers}
 use Rattle.text.specs.Lines.{Lines, none, cut, line, linesOf, kindOf, payloadOf}
 use Rattle.text.specs.declared.sections.Section.{Section}
 use Rattle.text.specs.declared.sections.Section.the-variants.{Code, Globals, SwitchFirsts, SwitchEnds, SwitchEntries, LookupFirsts, LookupDefaults, LookupEnds, LookupEntries}
 
--- what a line gives if it is of a kind, and nothing else
+-- numbers that only a line of a kind gives
 abbrev pub ofKind : ℕ → ℕ → List ℕ → List ℕ
 ofKind kind k xs = cond (eqb k kind) xs []
 
@@ -48,14 +46,10 @@ unfoldable pub sectionOf : Section → ℕ → ℕ → Lines → List ℕ
 sectionOf section targets values none = []
 sectionOf section targets values cut = []
 sectionOf section targets values (line l more) =
-    adds section (targetsWith targets (kindOf l) (payloadOf l)) (valuesWith values (kindOf l) (payloadOf l)) (kindOf l) (payloadOf l)
-    ++ sectionOf section (targetsWith targets (kindOf l) (payloadOf l)) (valuesWith values (kindOf l) (payloadOf l)) more
+    let t = targetsWith targets (kindOf l) (payloadOf l) in
+    let v = valuesWith values (kindOf l) (payloadOf l) in
+    adds section t v (kindOf l) (payloadOf l) ++ sectionOf section t v more
 
 -- the whole section of a text
 abbrev pub sectionIn : Section → List ℕ → List ℕ
 sectionIn section s = sectionOf section 0 0 (linesOf s)
-
--- `after` is `before` with numbers written from the n-th on, as far as it goes; r counts them all
-pub record Added (before : List ℕ) (n : ℕ) (xs after : List ℕ) (r : ℕ) : Type 0 where
-  pub count : r ≡ n + length xs
-  pub is : after ≡ write n xs before

@@ -4,8 +4,7 @@ ghost use mathlib.Core.Bool.{cond};
 ghost use mathlib.Core.List.{_∷_, []};
 ghost use Prim.Native.Nat.{_+_, _≤_, _<_, _^_};
 ghost use lib.ListN.{length};
-ghost use Rattle.memory.specs.Lists.{over};
-ghost use Rattle.text.specs.Sections.{Added};
+ghost use Rattle.memory.specs.Lists.{over, Written};
 ghost use Rattle.text.specs.Names.{bytesIn, nameOf, Found, answerOf, bytesOf};
 use crate::digits::number;
 use crate::lines::GLOBAL;
@@ -71,7 +70,7 @@ fn find(s: &[u8], i: usize) -> Spot
 // One byte more; past the buffer's end it is counted only.
 fn put_byte(v: u64, out: &mut [u8], n: usize) -> usize
     requires { ⌜ (v < 256) × (n + 1 < 2 ^ 64) ⌝ }
-    ensures { λ r. ⌜ Added (now (out .entry)) n (v ∷ []) (now (out .exit)) r ⌝ }
+    ensures { λ r. ⌜ Written (now (out .entry)) n (v ∷ []) (now (out .exit)) r ⌝ }
 {
     if n < out.len() {
         out[n] = v as u8;

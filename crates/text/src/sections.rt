@@ -3,11 +3,10 @@ ghost use mathlib.Core.Path.{_≡_};
 ghost use mathlib.Core.Bool.{cond};
 ghost use mathlib.Core.List.{_∷_, []};
 ghost use Prim.Native.Nat.{_+_, _-_, _/_, _≤_, _<_, _^_};
-ghost use lib.ListN.{length, drop, set};
-ghost use Rattle.memory.specs.Lists.{over};
+ghost use lib.ListN.{length, drop};
+ghost use Rattle.memory.specs.Lists.{over, Written};
 ghost use Rattle.text.specs.Digits.{numbers};
-ghost use Rattle.text.specs.Lines.{linesOf};
-ghost use Rattle.text.specs.Sections.{Added, adds, sectionIn};
+ghost use Rattle.text.specs.Sections.{adds, sectionIn};
 use crate::digits::number;
 use crate::lines::GLOBAL;
 use crate::lines::LOOKUP;
@@ -35,7 +34,7 @@ pub enum Section {
 // One number more, if `here`; past the buffer's end it is counted only.
 fn put(here: bool, v: u64, buf: &mut [u64], n: usize) -> usize
     requires { ⌜ n + 1 < 2 ^ 64 ⌝ }
-    ensures { λ r. ⌜ Added (now (buf .entry)) n (cond here (v ∷ []) []) (now (buf .exit)) r ⌝ }
+    ensures { λ r. ⌜ Written (now (buf .entry)) n (cond here (v ∷ []) []) (now (buf .exit)) r ⌝ }
 {
     if here {
         if n < buf.len() {
@@ -64,7 +63,7 @@ fn entry_count(here: bool, len: usize, from: usize, width: usize) -> usize
 // The numbers of `width` digits behind the first `from` digits of a payload, if `here`.
 fn put_entries(here: bool, p: &[u8], from: usize, width: usize, buf: &mut [u64], n: usize) -> usize
     requires { ⌜ (0 < width) × (width ≤ 16) × (n + length (now p) + 1 < 2 ^ 64) ⌝ }
-    ensures { λ r. ⌜ Added (now (buf .entry)) n (cond here (numbers width ((length (now (p .entry)) - from) / width) (drop from (now (p .entry)))) []) (now (buf .exit)) r ⌝ }
+    ensures { λ r. ⌜ Written (now (buf .entry)) n (cond here (numbers width ((length (now (p .entry)) - from) / width) (drop from (now (p .entry)))) []) (now (buf .exit)) r ⌝ }
 {
     let mut left = entry_count(here, p.len(), from, width);
     let mut at = from;
@@ -90,7 +89,7 @@ fn add_line(
     n: usize,
 ) -> usize
     requires { ⌜ n + length (now p) + 2 < 2 ^ 64 ⌝ }
-    ensures { λ r. ⌜ Added (now (buf .entry)) n (adds section targets values kind (now (p .entry))) (now (buf .exit)) r ⌝ }
+    ensures { λ r. ⌜ Written (now (buf .entry)) n (adds section targets values kind (now (p .entry))) (now (buf .exit)) r ⌝ }
 {
     match section {
         Section::Code => put(kind == WORD, number(p, 0, 16), buf, n),

@@ -1,6 +1,7 @@
 -- `report::put_end` meets its contract. Assumes nothing.
+use native.Mathlib.Omega.{arith}
+use Rattle.memory.proofs.Writes.{_then_}
 use Rattle.report.specs.Report.{endLine}
-use Rattle.report.proofs.Texts.{_then_}
 use borrow.Author.Needs.{needs}
 use Rattle.report.proofs.put_end.Statement.{statement}
 use Rattle.report.proofs.put_end.Tie as tie
@@ -12,7 +13,7 @@ returns c =
     let put-hex3 = put-line-feed .before .before .before .before in
     let put-hex2 = put-hex3 .before .before .before .before .before in
     let put-hex = put-hex2 .before .before .before .before in
-    put-hex .put-hex .ensures then put-hex2 .put-hex2 .ensures then put-hex3 .put-hex3 .ensures then put-line-feed .put-line-feed .ensures
+    (put-hex .put-hex .ensures .0 then put-hex2 .put-hex2 .ensures .0 then put-hex3 .put-hex3 .ensures .0 then put-line-feed .put-line-feed .ensures .0, omega arith)
 
 pub put-end-spec : {M : Type 1} → statement M
 put-end-spec =

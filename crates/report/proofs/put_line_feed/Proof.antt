@@ -1,13 +1,13 @@
 -- `report::put_line_feed` meets its contract. Assumes nothing.
 use mathlib.Core.Path.{refl}
-use mathlib.Core.List.{_∷_, []}
 use Rattle.memory.proofs.Over.{sets-write}
+use Rattle.report.specs.Report.{lineFeed}
 use borrow.Author.Needs.{needs}
 use Rattle.report.proofs.put_line_feed.Statement.{statement}
 use Rattle.report.proofs.put_line_feed.Tie as tie
 
 returns : tie.Need-returns
-returns c = record { ends = refl; long = refl; is = sets-write (10 ∷ []) (c .args .out .now) (c .args .at) }
+returns c = (record { ends = refl; is = sets-write lineFeed (c .args .out .now) (c .args .at) }, refl)
 
 pub put-line-feed-spec : {M : Type 1} → statement M
 put-line-feed-spec =

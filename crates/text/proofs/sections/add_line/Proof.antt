@@ -3,7 +3,8 @@ use mathlib.Core.List.{_∷_, []}
 use lib.Dec.{eqb}
 use native.Mathlib.Omega.{arith}
 use Rattle.text.specs.Sections.{adds}
-use Rattle.text.proofs.Gathering.{_and-then_, either-few}
+use Rattle.memory.proofs.Writes.{_then_}
+use Rattle.text.proofs.Gathering.{either-few}
 use borrow.Author.Needs.{needs}
 use Rattle.text.proofs.sections.add_line.Statement.{statement}
 use Rattle.text.proofs.sections.add_line.Tie as tie
@@ -13,7 +14,7 @@ put-requires-3 c κs =
     let put2 = c .before .before .before in
     let number2 = put2 .before .before in
     let start = number2 .before .before .before .before .before in
-    omega (arith, put2 .put2 .ensures .count, either-few (eqb (start .args .kind) 2) (number2 .number2 .result ∷ []) 1 (omega arith))
+    omega (arith, put2 .put2 .ensures .ends, either-few (eqb (start .args .kind) 2) (number2 .number2 .result ∷ []) 1 (omega arith))
 
 returns : tie.Need-returns
 unfolding adds
@@ -30,7 +31,7 @@ returns-2 c =
     let put2 = put3 .before .before .before .before in
     let number2 = put2 .before .before in
     let enum-told2 = number2 .before in
-    rw (enum-told2 .enum-told2 .given .1, ← number2 .number2 .ensures .0) (put2 .put2 .ensures and-then put3 .put3 .ensures)
+    rw (enum-told2 .enum-told2 .given .1, ← number2 .number2 .ensures .0) (put2 .put2 .ensures then put3 .put3 .ensures)
 
 returns-3 : tie.Need-returns-3
 unfolding adds

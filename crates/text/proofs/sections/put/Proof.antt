@@ -1,7 +1,8 @@
 -- `text::sections::put` meets its contract. Assumes nothing.
 use mathlib.Core.Bool.{cond}
 use mathlib.Core.List.{_∷_, []}
-use Rattle.text.proofs.Gathering.{added-one, added-past, added-none}
+use Rattle.memory.proofs.Writes.{written-none}
+use Rattle.text.proofs.Gathering.{added-one, added-past}
 use borrow.Author.Needs.{needs}
 use Rattle.text.proofs.sections.put.Statement.{statement}
 use Rattle.text.proofs.sections.put.Tie as tie
@@ -17,7 +18,7 @@ returns-2 c =
 returns-3 : tie.Need-returns-3
 returns-3 c =
     let start = c .before in
-    added-none _ _ (cond (start .args .here) (start .args .v ∷ []) []) (rw (c .if1 .left))
+    written-none _ _ (cond (start .args .here) (start .args .v ∷ []) []) (rw (c .if1 .left))
 
 pub put-spec : {M : Type 1} → statement M
 put-spec =
