@@ -1,6 +1,6 @@
 // What a machine is lent to run: an image, what is refused of it, and what its instructions ask for.
 pub mod effects;
-pub mod image;
+pub mod loader;
 
 // What an instruction asks for, once its registers are read.
 pub enum Effect {

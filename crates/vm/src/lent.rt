@@ -4,7 +4,7 @@ ghost use Rattle.vm.specs.Machine.{Lent, framesOk, heapOk, slotsOk, fram
 ghost use Rattle.vm.specs.declared.State.{State};
 ghost use Rattle.string.specs.Sound.{slotCount};
 use gc::PAGE_SIZE;
-use program::image;
+use program::loader;
 
 pub fn frames_ok(frames: usize) -> bool
     ensures { λ r. ⌜ r ≡ framesOk frames ⌝ }
@@ -44,5 +44,5 @@ pub fn frames_belong(words: usize, depth: usize, frames: &[u64]) -> bool
     if depth == 0 {
         return true;
     }
-    image::below(words - 1, &frames[1..depth])
+    loader::below(words - 1, &frames[1..depth])
 }

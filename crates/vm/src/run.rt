@@ -27,7 +27,7 @@ use gc::Metadata;
 use op::Checked;
 use program::Effect;
 use program::effects;
-use program::image;
+use program::loader;
 
 // What changes from instruction to instruction, beside registers, frames and heap.
 pub struct Position {
@@ -397,7 +397,7 @@ impl State {
     {
         let gc = self.gc;
         let sizes = lent::frames_ok(frames.len()) & lent::heap_ok(gc.base, heap.len());
-        let checked = image::check(
+        let checked = loader::check(
             sizes,
             code,
             globals,

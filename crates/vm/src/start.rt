@@ -16,7 +16,7 @@ use anomaly::Refusal;
 use gc::Alloc;
 use gc::Gc;
 use op::Checked;
-use program::image;
+use program::loader;
 use string::table::StrTable;
 
 // A state that has nothing in use.
@@ -82,7 +82,7 @@ pub fn start(
 {
     let sizes = lent::frames_ok(frames.len())
         & (lent::heap_ok(base, heap.len()) & lent::slots_ok(slots.len(), spare.len()));
-    let checked = image::check(
+    let checked = loader::check(
         sizes,
         code,
         globals,

@@ -1,5 +1,6 @@
 -- `image::put_reply` meets its contract. Assumes nothing.
 use mathlib.Core.Path.{_≡_, refl}
+use lib.Dec.{lit≤}
 use Rattle.memory.specs.Lists.{over}
 use Rattle.vm.specs.Told.{saidOf}
 use Rattle.image.specs.Runner.{replyText}
@@ -14,15 +15,15 @@ returns c =
     let put-refusal = c .before .before in
     let number = put-refusal .before in
     let reply = number .before .before .before in
-    rw (reply .reply .given .1) (refusal-says _ _ _ _ (put-refusal .put-refusal .ensures .0) (rw (number .number .ensures) at (put-refusal .put-refusal .ensures .1)))
+    rw (reply .reply .given .1) (refusal-says _ _ _ _ (rw (number .number .ensures) at (put-refusal .put-refusal .ensures .0)) (put-refusal .put-refusal .ensures .1))
 
 returns-2 : tie.Need-returns-2
 unfolding saidOf replyText over
-returns-2 c = rw (c .enum-told .given .1) (refl, refl)
+returns-2 c = rw (c .enum-told .given .1) (refl, refl, lit≤ tt)
 
 returns-3 : tie.Need-returns-3
 unfolding saidOf replyText over
-returns-3 c = rw (c .enum-told2 .given .1) (refl, refl)
+returns-3 c = rw (c .enum-told2 .given .1) (refl, refl, lit≤ tt)
 
 pub put-reply-spec : {M : Type 1} → statement M
 put-reply-spec =

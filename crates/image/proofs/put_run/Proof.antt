@@ -1,6 +1,6 @@
 -- `image::put_run` meets its contract. Assumes nothing.
 use mathlib.Core.Path.{_≡_, refl}
-use Rattle.image.proofs.Answers.{report-says}
+use Rattle.image.proofs.Answers.{written-says}
 use borrow.Author.Needs.{needs}
 use Rattle.image.proofs.put_run.Statement.{statement}
 use Rattle.image.proofs.put_run.Tie as tie
@@ -11,7 +11,7 @@ returns c =
     let steps = put-report .before .before .before in
     let pc = steps .before in
     let number = pc .before in
-    report-says _ _ _ _ (rw (number .number .ensures, pc .pc .ensures, steps .steps .ensures) at (put-report .put-report .ensures .0)) (rw (number .number .ensures, pc .pc .ensures, steps .steps .ensures) at (put-report .put-report .ensures .1))
+    written-says _ _ _ _ (rw (number .number .ensures, pc .pc .ensures, steps .steps .ensures) at (put-report .put-report .ensures .0)) (put-report .put-report .ensures .1)
 
 pub put-run-spec : {M : Type 1} → statement M
 put-run-spec =

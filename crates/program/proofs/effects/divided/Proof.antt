@@ -1,4 +1,4 @@
--- `vm::effects::divided` meets its contract. Assumes nothing.
+-- `program::effects::divided` meets its contract. Assumes nothing.
 use Rattle.program.specs.Effect.{divided}
 use borrow.Author.Needs.{needs}
 use Rattle.program.proofs.effects.divided.Statement.{statement}

@@ -1,4 +1,4 @@
--- `vm::effects::effect_of` meets its contract: each arm by the instruction's clause, the registers' reads and its callees. Assumes nothing.
+-- `program::effects::effect_of` meets its contract: each arm by the instruction's clause, the registers' reads and its callees. Assumes nothing.
 use native.Mathlib.Omega.{arith}
 use Rattle.op.proofs.Arms.{nothing}
 use Rattle.program.specs.Effect.{effectOf}

@@ -1,4 +1,4 @@
--- `vm::effects::find` meets its contract. Assumes nothing.
+-- `program::effects::find` meets its contract. Assumes nothing.
 use native.Mathlib.Omega.{arith}
 use Rattle.program.proofs.Asks.{bounds, entry-found, entry-missing}
 use borrow.Author.Needs.{needs}

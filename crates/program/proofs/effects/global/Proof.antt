@@ -1,4 +1,4 @@
--- `vm::effects::global` meets its contract. Assumes nothing.
+-- `program::effects::global` meets its contract. Assumes nothing.
 use Rattle.program.proofs.Asks.{inside, outside}
 use borrow.Author.Needs.{needs}
 use Rattle.program.proofs.effects.global.Statement.{statement}

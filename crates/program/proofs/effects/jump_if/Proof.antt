@@ -1,4 +1,4 @@
--- `vm::effects::jump_if` meets its contract. Assumes nothing.
+-- `program::effects::jump_if` meets its contract. Assumes nothing.
 use Rattle.program.specs.Effect.{jumpIf}
 use Rattle.program.proofs.effects.jump_if.Statement.{statement}
 use Rattle.program.proofs.effects.jump_if.Tie as tie

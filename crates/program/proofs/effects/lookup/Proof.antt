@@ -1,4 +1,4 @@
--- `vm::effects::lookup` meets its contract. Assumes nothing.
+-- `program::effects::lookup` meets its contract. Assumes nothing.
 use mathlib.Core.Path.{sym, _∙_}
 use lib.ListN.{getD}
 use Rattle.program.specs.Image.{tablesOf, entriesOf}

@@ -1,4 +1,4 @@
--- `vm::effects::slot` meets its contract. Assumes nothing.
+-- `program::effects::slot` meets its contract. Assumes nothing.
 use native.Mathlib.Omega.{arith}
 use Rattle.program.proofs.Asks.{difference, slot-str, slot-int}
 use borrow.Author.Needs.{needs}

@@ -1,4 +1,4 @@
--- `vm::effects::starts_at` meets its contract. Assumes nothing.
+-- `program::effects::starts_at` meets its contract. Assumes nothing.
 use Rattle.program.proofs.Asks.{first-start, later-start}
 use borrow.Author.Needs.{needs}
 use Rattle.program.proofs.effects.starts_at.Statement.{statement}

@@ -1,4 +1,4 @@
--- `vm::effects::switch` meets its contract. Assumes nothing.
+-- `program::effects::switch` meets its contract. Assumes nothing.
 use mathlib.Core.Path.{sym, _∙_}
 use Rattle.program.proofs.Asks.{inside, outside, switch-found, switch-missing}
 use borrow.Author.Needs.{needs}

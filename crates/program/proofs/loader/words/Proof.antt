@@ -1,4 +1,4 @@
--- `vm::image::words` meets its contract. Assumes nothing.
+-- `program::loader::words` meets its contract. Assumes nothing.
 use mathlib.Core.Path.{_≡_, refl, sym, _∙_}
 use Prim.Native.Nat.{_-_}
 use lib.ListN.{length, drop}
@@ -6,8 +6,8 @@ use Rattle.program.specs.Image.{wordTests, failing}
 use Rattle.program.proofs.Images.{word-fails, word-on, words-end}
 use borrow.Author.Needs.{needs}
 use borrow.Author.Needs.{needs}
-use Rattle.program.proofs.image.words.Statement.{statement}
-use Rattle.program.proofs.image.words.Tie as tie
+use Rattle.program.proofs.loader.words.Statement.{statement}
+use Rattle.program.proofs.loader.words.Tie as tie
 
 abbrev Inv-loop : tie.InvT-loop
 Inv-loop code n i₀ i = failing (wordTests n (drop i code)) ≡ failing (wordTests n code)

@@ -1,10 +1,10 @@
--- `vm::image::sizes_ok` meets its contract. Assumes nothing.
+-- `program::loader::sizes_ok` meets its contract. Assumes nothing.
 use mathlib.Core.Path.{refl}
 use Rattle.program.specs.Image.{imageOk}
 use borrow.Author.Needs.{needs}
 use borrow.Author.Needs.{needs}
-use Rattle.program.proofs.image.sizes_ok.Statement.{statement}
-use Rattle.program.proofs.image.sizes_ok.Tie as tie
+use Rattle.program.proofs.loader.sizes_ok.Statement.{statement}
+use Rattle.program.proofs.loader.sizes_ok.Tie as tie
 
 returns : tie.Need-returns
 unfolding imageOk

@@ -1,9 +1,9 @@
--- `vm::image::tables_ok` meets its contract. Assumes nothing.
+-- `program::loader::tables_ok` meets its contract. Assumes nothing.
 use mathlib.Core.Path.{refl}
 use Rattle.program.specs.Image.{tablesOk}
 use borrow.Author.Needs.{needs}
-use Rattle.program.proofs.image.tables_ok.Statement.{statement}
-use Rattle.program.proofs.image.tables_ok.Tie as tie
+use Rattle.program.proofs.loader.tables_ok.Statement.{statement}
+use Rattle.program.proofs.loader.tables_ok.Tie as tie
 
 returns : tie.Need-returns
 unfolding tablesOk

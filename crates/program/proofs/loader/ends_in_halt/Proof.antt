@@ -1,8 +1,8 @@
--- `vm::image::ends_in_halt` meets its contract. Assumes nothing.
+-- `program::loader::ends_in_halt` meets its contract. Assumes nothing.
 use Rattle.program.proofs.Images.{no-code, last-word}
 use borrow.Author.Needs.{needs}
-use Rattle.program.proofs.image.ends_in_halt.Statement.{statement}
-use Rattle.program.proofs.image.ends_in_halt.Tie as tie
+use Rattle.program.proofs.loader.ends_in_halt.Statement.{statement}
+use Rattle.program.proofs.loader.ends_in_halt.Tie as tie
 
 returns : tie.Need-returns
 returns c = no-code _ (c .if1 .taken)

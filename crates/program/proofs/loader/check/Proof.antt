@@ -1,4 +1,4 @@
--- `vm::image::check` meets its contract. Assumes nothing.
+-- `program::loader::check` meets its contract. Assumes nothing.
 use mathlib.Core.Path.{refl, sym, _∙_}
 use mathlib.Core.Bool.{_&&_}
 use borrow.Author.Tests.{not-true, not-false}
@@ -6,8 +6,8 @@ use Rattle.program.specs.Image.{counts, verdict}
 use Rattle.program.proofs.Images.{refused-10, refused-11, refused-16, word-by-word}
 use borrow.Author.Needs.{needs}
 use borrow.Author.Needs.{needs}
-use Rattle.program.proofs.image.check.Statement.{statement}
-use Rattle.program.proofs.image.check.Tie as tie
+use Rattle.program.proofs.loader.check.Statement.{statement}
+use Rattle.program.proofs.loader.check.Tie as tie
 
 returns : tie.Need-returns
 returns c =
