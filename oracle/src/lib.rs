@@ -1,0 +1,12 @@
+//! The original Rust and a model of document 01, side by side.
+pub mod anomaly;
+pub mod case;
+pub mod compare;
+pub mod conditions;
+pub mod generate;
+pub mod image;
+pub mod machine;
+pub mod model;
+pub mod original;
+pub mod shrink;
+pub mod text;

@@ -1,0 +1,134 @@
+//! `oracle report FILE`, `oracle rust FILE`, `oracle compare --cases N --seed S`.
+use oracle::case::Case;
+use oracle::compare::{Aside, Compared, Counts, Outcome, Tally, compare};
+use oracle::image::Image;
+use oracle::machine::{Answer, Call, Machine};
+use oracle::model::Model;
+use oracle::original::Original;
+use oracle::shrink::shrink;
+use oracle::{generate, text};
+use std::process::ExitCode;
+
+const USAGE: &str = "\
+oracle report FILE        the image runner's report, by the model
+oracle rust FILE          the same by the original; 3 where its conditions are not kept
+oracle compare [--cases N] [--seed S] [--from I]
+                          generated cases, the model and the original side by side
+FILE is an image's text, - for standard input";
+
+fn main() -> ExitCode {
+    let args: Vec<String> = std::env::args().skip(1).collect();
+    let args: Vec<&str> = args.iter().map(String::as_str).collect();
+    match args[..] {
+        ["report", file] => input(file).map_or(ExitCode::from(2), |input| {
+            print!("{}", text::report::<Model>(&input));
+            ExitCode::SUCCESS
+        }),
+        ["rust", file] => input(file).map_or(ExitCode::from(2), |input| by_the_original(&input)),
+        ["compare", ref options @ ..] => comparison(options),
+        _ => {
+            eprintln!("{USAGE}");
+            ExitCode::from(2)
+        }
+    }
+}
+
+fn input(file: &str) -> Option<Vec<u8>> {
+    let read = if file == "-" {
+        let mut bytes = Vec::new();
+        std::io::Read::read_to_end(&mut std::io::stdin(), &mut bytes).map(|_| bytes)
+    } else {
+        std::fs::read(file)
+    };
+    read.map_err(|error| eprintln!("oracle: {file}: {error}")).ok()
+}
+
+/// The report, by the original alone but for the steps, which it does not count.
+fn by_the_original(input: &[u8]) -> ExitCode {
+    let aside = |why: String| {
+        eprintln!("oracle: not run in the Rust: {why}");
+        ExitCode::from(3)
+    };
+    let Some(text) = text::read(input).filter(text::Text::within) else {
+        return aside(format!("the runner refuses the image: {}", text::report::<Model>(input).trim_end()));
+    };
+    // the model learns the names' values and says whether the conditions are kept
+    let mut model = match Model::start(text.lent(), &text.image) {
+        Ok(model) => model,
+        Err(number) => return aside(Aside::StartRefused(number).to_string()),
+    };
+    let mut image: Image = text.image.clone();
+    let mut calls = Vec::new();
+    for (global, name) in &text.names {
+        let call = Call::Intern(name.clone());
+        match model.call(&[], &call) {
+            Answer::Value(value) => image.globals[*global] = value,
+            other => return aside(format!("an interning: {other:?}")),
+        }
+        calls.push(call);
+    }
+    calls.push(Call::Run { image: 0, budget: text.budget });
+    let case = Case { lent: text.lent(), images: vec![image], calls };
+    match compare::<Original>(&case, &mut Counts::default()) {
+        Outcome::Same => {}
+        Outcome::Aside(why) => return aside(why.to_string()),
+        Outcome::Differs(what) => {
+            eprintln!("oracle: the model and the Rust differ: {what}");
+            return ExitCode::FAILURE;
+        }
+    }
+    // a run of its own, for its own report
+    let Ok(mut original) = Original::start(case.lent, &case.images[0]) else {
+        return aside(Aside::NotMapped.to_string());
+    };
+    let mut last = (Answer::Done, Answer::Done);
+    for call in &case.calls {
+        last = (original.call(&case.images, call), model_answer(&mut model, &case, call));
+    }
+    let (Answer::End { number, pc, .. }, Answer::End { steps, .. }) = last else {
+        return aside("no run".into());
+    };
+    print!("{}", text::printed(&original, Answer::End { number, pc, steps }));
+    ExitCode::SUCCESS
+}
+
+/// The model has interned the names already: interning again changes nothing.
+fn model_answer(model: &mut Model, case: &Case, call: &Call) -> Answer {
+    model.call(&case.images, call)
+}
+
+fn comparison(options: &[&str]) -> ExitCode {
+    let (mut cases, mut seed, mut from) = (100_000, 1, 0);
+    for option in options.chunks(2) {
+        let number = option.get(1).and_then(|n| n.parse::<u64>().ok());
+        match (option[0], number) {
+            ("--cases", Some(n)) => cases = n,
+            ("--seed", Some(n)) => seed = n,
+            ("--from", Some(n)) => from = n,
+            _ => {
+                eprintln!("{USAGE}");
+                return ExitCode::from(2);
+            }
+        }
+    }
+    let mut tally = Tally::default();
+    for number in from..from + cases {
+        let case = generate::case(seed, number);
+        if let Err(what) = tally.add::<Original>(&case) {
+            println!("{tally}");
+            differs::<Original>(seed, number, case, &what);
+            return ExitCode::FAILURE;
+        }
+    }
+    print!("{tally}");
+    ExitCode::SUCCESS
+}
+
+fn differs<M: Compared>(seed: u64, number: u64, case: Case, what: &str) {
+    println!("seed {seed}, case {number}: the model and {} differ: {what}", M::NAME);
+    let fails = |case: &Case| matches!(compare::<M>(case, &mut Counts::default()), Outcome::Differs(_));
+    let smallest = shrink(case, fails);
+    if let Outcome::Differs(what) = compare::<M>(&smallest, &mut Counts::default()) {
+        println!("the smallest input that shows it: {what}\n{smallest}");
+    }
+}
