@@ -4,6 +4,7 @@ pub mod case;
 pub mod compare;
 pub mod conditions;
 pub mod generate;
+pub mod guard;
 pub mod image;
 pub mod machine;
 pub mod model;

@@ -1,6 +1,7 @@
 //! `oracle report FILE`, `oracle rust FILE`, `oracle compare --cases N --seed S`.
 use oracle::case::Case;
 use oracle::compare::{Aside, Compared, Counts, Outcome, Tally, compare};
+use oracle::guard::{self, Ended, Shared};
 use oracle::image::Image;
 use oracle::machine::{Answer, Call, Machine};
 use oracle::model::Model;
@@ -111,24 +112,50 @@ fn comparison(options: &[&str]) -> ExitCode {
             }
         }
     }
-    let mut tally = Tally::default();
-    for number in from..from + cases {
-        let case = generate::case(seed, number);
-        if let Err(what) = tally.add::<Original>(&case) {
-            println!("{tally}");
-            differs::<Original>(seed, number, case, &what);
-            return ExitCode::FAILURE;
+    // in a child, which tells at which case it is: see `guard`
+    let now = Shared::new();
+    let ended = guard::child(|| {
+        let mut tally = Tally::default();
+        for number in from..from + cases {
+            now.set(number);
+            guard::seconds(20);
+            let case = generate::case(seed, number);
+            if let Err(what) = tally.add::<Original>(&case) {
+                println!("{tally}\nseed {seed}, case {number}: the model and {} differ: {what}", Original::NAME);
+                return 1;
+            }
         }
+        print!("{tally}");
+        0
+    });
+    match ended {
+        Ended::Exit(0) => return ExitCode::SUCCESS,
+        Ended::Exit(_) => {}
+        Ended::Signal(signal) => println!("seed {seed}, case {}: {} dies by signal {signal}", now.get(), Original::NAME),
     }
-    print!("{tally}");
-    ExitCode::SUCCESS
+    smallest::<Original>(generate::case(seed, now.get()));
+    ExitCode::FAILURE
 }
 
-fn differs<M: Compared>(seed: u64, number: u64, case: Case, what: &str) {
-    println!("seed {seed}, case {number}: the model and {} differ: {what}", M::NAME);
-    let fails = |case: &Case| matches!(compare::<M>(case, &mut Counts::default()), Outcome::Differs(_));
-    let smallest = shrink(case, fails);
-    if let Outcome::Differs(what) = compare::<M>(&smallest, &mut Counts::default()) {
-        println!("the smallest input that shows it: {what}\n{smallest}");
-    }
+/// Prints the smallest input found that still shows a difference.
+fn smallest<M: Compared>(case: Case) {
+    let differs = |case: &Case| match compare::<M>(case, &mut Counts::default()) {
+        Outcome::Differs(what) => Some(what),
+        _ => None,
+    };
+    let fails = |case: &Case| {
+        let ended = guard::child(|| {
+            guard::seconds(1);
+            std::panic::set_hook(Box::new(|_| {}));
+            u8::from(differs(case).is_some())
+        });
+        !matches!(ended, Ended::Exit(0))
+    };
+    let case = shrink(case, fails);
+    println!("the smallest input that shows it:\n{case}");
+    guard::child(|| {
+        guard::seconds(1);
+        println!("{}", differs(&case).unwrap_or_default());
+        0
+    });
 }

@@ -1,7 +1,7 @@
 //! A case made smaller for as long as it still fails.
 use crate::case::Case;
 use crate::image::Image;
-use crate::machine::Call;
+use crate::machine::{Call, Lent, PAGE};
 use crate::model::word::{self, Format, ROWS};
 
 /// The image without one word; jumps and tables that led behind it lead one less far.
@@ -24,64 +24,99 @@ fn without(image: &Image, at: usize) -> Image {
     image
 }
 
-/// Every case that is one thing smaller, large steps first.
-fn smaller(case: &Case) -> Vec<Box<dyn Fn() -> Case + '_>> {
-    let mut all: Vec<Box<dyn Fn() -> Case>> = Vec::new();
-    let n = case.calls.len();
-    for size in [n / 2, n / 4, 1] {
-        for at in (0..n).step_by(size.max(1)).filter(|_| size > 0) {
-            all.push(Box::new(move || {
-                let mut case = case.clone();
-                case.calls.drain(at..(at + size).min(n));
-                case
-            }));
-        }
-    }
+/// One thing less.
+enum Edit {
+    /// a small terminal
+    Lent,
+    /// the second half of a name
+    Name(usize),
+    /// calls from here on, so many
+    Calls(usize, usize),
+    /// all of an image
+    Image(usize),
+    /// words of an image, from here on, so many
+    Words(usize, usize, usize),
+    /// the fields of a word outside this mask to zero
+    Fields(usize, usize, u64),
+    /// the last of each
+    Global(usize),
+    Switch(usize),
+    Lookup(usize),
+}
+
+const SMALL: Lent = Lent { base: 0x1_0000, heap: 8 * PAGE, frames: 4, slots: 64, spare: 64, fill: 0 };
+
+/// Large steps first.
+fn edits(case: &Case) -> Vec<Edit> {
+    let runs = |n: usize| {
+        let sizes = [n / 2, n / 4, n / 8, 1].into_iter().filter(|&size| size > 0);
+        sizes.flat_map(move |size| (0..n).rev().step_by(size).map(move |end| ((end + 1).saturating_sub(size), size)))
+    };
+    let mut all: Vec<Edit> = runs(case.calls.len()).map(|(at, n)| Edit::Calls(at, n)).collect();
+    all.push(Edit::Lent);
+    all.extend((0..case.calls.len()).map(Edit::Name));
     for (i, image) in case.images.iter().enumerate() {
-        let change = move |edit: &dyn Fn(&mut Image)| {
-            let mut case = case.clone();
-            edit(&mut case.images[i]);
-            case
-        };
-        let used = i == 0 || case.calls.iter().any(|call| matches!(call, Call::Run { image, .. } if *image == i));
-        if !used || (i == 0 && !image.code.is_empty()) {
-            all.push(Box::new(move || change(&|image| *image = Image::default())));
+        all.push(Edit::Image(i));
+        all.extend(runs(image.code.len()).map(|(at, n)| Edit::Words(i, at, n)));
+        for at in 0..image.code.len() {
+            all.extend([0xff, 0xffff_ffff, 0xffff_ffff_0000_00ff].map(|keep| Edit::Fields(i, at, keep)));
         }
-        let words = image.code.len();
-        for size in [words / 2, words / 4, words / 8, 1] {
-            for at in (0..words).step_by(size.max(1)).filter(|_| size > 0) {
-                all.push(Box::new(move || {
-                    change(&|image| (0..size.min(words - at)).for_each(|_| *image = without(image, at)))
-                }));
-            }
-        }
-        for at in 0..words {
-            // fields to zero
-            for keep in [0xff, 0xffff_ffff, 0xffff_ffff_0000_00ff] {
-                if image.code[at] & !keep != 0 {
-                    all.push(Box::new(move || change(&|image| image.code[at] &= keep)));
-                }
-            }
-        }
-        if !image.globals.is_empty() {
-            all.push(Box::new(move || change(&|image| image.globals.truncate(image.globals.len() - 1))));
-        }
-        if !image.switches.is_empty() {
-            all.push(Box::new(move || change(&|image| image.switches.truncate(image.switches.len() - 1))));
-        }
-        if !image.lookups.is_empty() {
-            all.push(Box::new(move || change(&|image| image.lookups.truncate(image.lookups.len() - 1))));
-        }
+        all.extend(image.globals.iter().map(|_| Edit::Global(i)));
+        all.extend(image.switches.iter().map(|_| Edit::Switch(i)));
+        all.extend(image.lookups.iter().map(|_| Edit::Lookup(i)));
     }
     all
 }
 
+/// `None` where nothing would be less, as after other edits.
+fn edited(case: &Case, edit: &Edit) -> Option<Case> {
+    let mut case = case.clone();
+    match *edit {
+        Edit::Lent => {
+            (case.lent != SMALL).then_some(())?;
+            case.lent = SMALL;
+        }
+        Edit::Name(at) => match case.calls.get_mut(at)? {
+            Call::Intern(bytes) if !bytes.is_empty() => bytes.truncate(bytes.len() / 2),
+            _ => return None,
+        },
+        Edit::Calls(at, n) => {
+            let end = (at + n).min(case.calls.len());
+            (at < end).then(|| drop(case.calls.drain(at..end)))?;
+        }
+        Edit::Image(i) => {
+            let image = std::mem::take(&mut case.images[i]);
+            (image != Image::default()).then_some(())?;
+        }
+        Edit::Words(i, at, n) => {
+            let image = &mut case.images[i];
+            let end = (at + n).min(image.code.len());
+            (at < end).then(|| (at..end).for_each(|_| *image = without(image, at)))?;
+        }
+        Edit::Fields(i, at, keep) => {
+            let word = case.images[i].code.get_mut(at).filter(|word| **word & !keep != 0)?;
+            *word &= keep;
+        }
+        Edit::Global(i) => {
+            case.images[i].globals.pop()?;
+        }
+        Edit::Switch(i) => drop(case.images[i].switches.pop()?),
+        Edit::Lookup(i) => drop(case.images[i].lookups.pop()?),
+    }
+    Some(case)
+}
+
 pub fn shrink(mut case: Case, fails: impl Fn(&Case) -> bool) -> Case {
     loop {
-        let candidate = smaller(&case).iter().map(|make| make()).find(&fails);
-        match candidate {
-            Some(candidate) => case = candidate,
-            None => return case,
+        let mut less = false;
+        for edit in edits(&case) {
+            if let Some(smaller) = edited(&case, &edit).filter(&fails) {
+                case = smaller;
+                less = true;
+            }
+        }
+        if !less {
+            return case;
         }
     }
 }

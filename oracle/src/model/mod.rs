@@ -6,8 +6,6 @@ mod heap;
 mod load;
 mod names;
 mod run;
-#[cfg(test)]
-mod tests;
 pub mod value;
 pub mod word;
 
