@@ -1,13 +1,13 @@
 //! `oracle report FILE`, `oracle rust FILE`, `oracle compare --cases N --seed S`.
 use oracle::case::Case;
-use oracle::compare::{Aside, Compared, Counts, Outcome, Tally, compare};
+use oracle::compare::{Compared, Counts, Outcome, Tally, compare};
 use oracle::guard::{self, Ended, Shared};
-use oracle::image::Image;
 use oracle::machine::{Answer, Call, Machine};
 use oracle::model::Model;
 use oracle::original::Original;
 use oracle::shrink::shrink;
 use oracle::{generate, text};
+use std::fmt::Display;
 use std::process::ExitCode;
 
 const USAGE: &str = "\
@@ -46,56 +46,31 @@ fn input(file: &str) -> Option<Vec<u8>> {
 
 /// The report, by the original alone but for the steps, which it does not count.
 fn by_the_original(input: &[u8]) -> ExitCode {
-    let aside = |why: String| {
+    let aside = |why: &dyn Display| {
         eprintln!("oracle: not run in the Rust: {why}");
         ExitCode::from(3)
     };
-    let Some(text) = text::read(input).filter(text::Text::within) else {
-        return aside(format!("the runner refuses the image: {}", text::report::<Model>(input).trim_end()));
+    let Some(case) = text::case(input) else {
+        return aside(&format!("the runner refuses the image, {}", text::report::<Model>(input).trim_end()));
     };
-    // the model learns the names' values and says whether the conditions are kept
-    let mut model = match Model::start(text.lent(), &text.image) {
-        Ok(model) => model,
-        Err(number) => return aside(Aside::StartRefused(number).to_string()),
-    };
-    let mut image: Image = text.image.clone();
-    let mut calls = Vec::new();
-    for (global, name) in &text.names {
-        let call = Call::Intern(name.clone());
-        match model.call(&[], &call) {
-            Answer::Value(value) => image.globals[*global] = value,
-            other => return aside(format!("an interning: {other:?}")),
-        }
-        calls.push(call);
-    }
-    calls.push(Call::Run { image: 0, budget: text.budget });
-    let case = Case { lent: text.lent(), images: vec![image], calls };
     match compare::<Original>(&case, &mut Counts::default()) {
         Outcome::Same => {}
-        Outcome::Aside(why) => return aside(why.to_string()),
+        Outcome::Aside(why) => return aside(&why),
         Outcome::Differs(what) => {
             eprintln!("oracle: the model and the Rust differ: {what}");
             return ExitCode::FAILURE;
         }
     }
-    // a run of its own, for its own report
-    let Ok(mut original) = Original::start(case.lent, &case.images[0]) else {
-        return aside(Aside::NotMapped.to_string());
-    };
-    let mut last = (Answer::Done, Answer::Done);
-    for call in &case.calls {
-        last = (original.call(&case.images, call), model_answer(&mut model, &case, call));
-    }
-    let (Answer::End { number, pc, .. }, Answer::End { steps, .. }) = last else {
-        return aside("no run".into());
+    let run = |machine: &mut dyn FnMut(&Call) -> Answer| case.calls.iter().map(machine).last();
+    let mut model = Model::start(case.lent, &case.images[0]).expect("it was started before");
+    let mut original = Original::lend(case.lent).expect("it was started before");
+    let counted = run(&mut |call| model.call(&case.images, call));
+    let told = run(&mut |call| original.call(&case.images, call));
+    let (Some(Answer::End { number, pc, .. }), Some(Answer::End { steps, .. })) = (told, counted) else {
+        unreachable!("the last call is a run");
     };
     print!("{}", text::printed(&original, Answer::End { number, pc, steps }));
     ExitCode::SUCCESS
-}
-
-/// The model has interned the names already: interning again changes nothing.
-fn model_answer(model: &mut Model, case: &Case, call: &Call) -> Answer {
-    model.call(&case.images, call)
 }
 
 fn comparison(options: &[&str]) -> ExitCode {

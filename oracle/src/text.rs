@@ -1,7 +1,9 @@
 //! The image runner: document 01, 'The image runner reads lower-case lines, highest digit first'.
 use crate::anomaly::{MALFORMED, SIZE};
+use crate::case::Case;
 use crate::image::{Image, Lookup, Switch};
 use crate::machine::{Answer, Call, Lent, Machine, PAGE};
+use crate::model::Model;
 use std::fmt::Write;
 
 /// A text that is read: what it lends, the image, and its names with the global that each one gives.
@@ -137,6 +139,23 @@ impl Text {
             fill: 0,
         }
     }
+}
+
+/// The same as a case: its names interned, then the run, with their values among the globals. `None` where the runner refuses.
+pub fn case(input: &[u8]) -> Option<Case> {
+    let text = read(input).filter(Text::within)?;
+    let mut model = Model::start(text.lent(), &text.image).ok()?;
+    let (lent, mut image) = (text.lent(), text.image);
+    let mut calls = Vec::new();
+    for (global, bytes) in text.names {
+        calls.push(Call::Intern(bytes));
+        let Answer::Value(value) = model.call(&[], calls.last()?) else {
+            return None;
+        };
+        image.globals[global] = value;
+    }
+    calls.push(Call::Run { image: 0, budget: text.budget });
+    Some(Case { lent, images: vec![image], calls })
 }
 
 /// 'A refusal, of an interning too, is its number alone in two digits.'

@@ -3,7 +3,7 @@ use super::calls;
 use super::program;
 use super::rng::Rng;
 use crate::case::Case;
-use crate::machine::{Call, PAGE};
+use crate::machine::Call;
 use crate::text::{self, Text};
 
 /// A case in which something of an image is other than it was made.
@@ -45,18 +45,19 @@ pub fn case(rng: &mut Rng) -> Case {
 }
 
 /// An image's text, damaged in most cases: a byte changed, a line dropped, doubled or cut.
-pub fn text(seed: u64, number: u64) -> Vec<u8> {
-    let rng = &mut Rng::of(!seed, number);
+pub fn text(rng: &mut Rng) -> Vec<u8> {
     let lent = calls::lent(rng);
     let mut image = program::image(rng, &[], lent.frames);
     let mut names = Vec::new();
     for _ in 0..rng.below(5) {
-        names.push((image.globals.len(), super::values::name(rng)));
+        // at times one that needs pages of its own
+        let name = if rng.one_in(30) { vec![b'n'; rng.from_to(4000, 9000) as usize] } else { super::values::name(rng) };
+        names.push((image.globals.len(), name));
         image.globals.push(0);
     }
     let mut bytes = text::write(&Text {
         base: lent.base,
-        pages: (lent.heap / PAGE).min(9),
+        pages: if rng.one_in(40) { *rng.one_of(&[0, 9]) } else { rng.from_to(1, 8) },
         frames: lent.frames,
         slots: lent.slots,
         budget: if rng.one_in(4) { rng.below(200) } else { 5000 },
@@ -77,8 +78,9 @@ fn damage(rng: &mut Rng, bytes: &mut Vec<u8>) {
     let at = rng.below(bytes.len() as u64) as usize;
     let start = bytes[..at].iter().rposition(|&b| b == b'\n').map_or(0, |n| n + 1);
     let end = bytes[at..].iter().position(|&b| b == b'\n').map_or(bytes.len(), |n| at + n + 1);
-    match rng.below(8) {
-        0 | 1 => bytes[at] = *rng.one_of(b"0123456789abcdefABg \n\r"),
+    match rng.below(20) {
+        8.. => bytes[at] = *rng.one_of(b"0123456789abcdef"),
+        0 | 1 => bytes[at] = *rng.one_of(b"ABg \n\r"),
         2 => bytes[at] = rng.word() as u8,
         3 => drop(bytes.drain(start..end)),
         4 => {
@@ -87,6 +89,6 @@ fn damage(rng: &mut Rng, bytes: &mut Vec<u8>) {
         }
         5 => drop(bytes.remove(at)),
         6 => bytes.truncate(at),
-        _ => bytes.insert(at, *rng.one_of(b"0f\n")),
+        7 => bytes.insert(at, *rng.one_of(b"0f\n")),
     }
 }

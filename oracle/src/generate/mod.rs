@@ -7,8 +7,12 @@ pub mod rng;
 pub mod values;
 
 use crate::case::Case;
-pub use damage::text;
 use rng::Rng;
+
+/// An image's text, damaged in most cases.
+pub fn text(seed: u64, number: u64) -> Vec<u8> {
+    damage::text(&mut Rng::of(seed, number))
+}
 
 pub fn case(seed: u64, number: u64) -> Case {
     let rng = &mut Rng::of(seed, number);
@@ -16,7 +20,9 @@ pub fn case(seed: u64, number: u64) -> Case {
         0..55 => calls::programs(rng),
         55..75 => calls::list(rng),
         75..76 => calls::many_names(rng),
-        76..88 => limits::case(rng),
-        _ => damage::case(rng),
+        76..87 => limits::case(rng),
+        87..96 => damage::case(rng),
+        // a text that the runner takes; the others are answered in `texts`
+        _ => crate::text::case(&damage::text(rng)).unwrap_or_else(|| damage::case(rng)),
     }
 }
