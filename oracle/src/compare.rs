@@ -25,6 +25,7 @@ pub enum Aside {
     NamePayload,
     Nan,
     NotUtf8,
+    MadeUp,
 }
 
 impl fmt::Display for Aside {
@@ -37,6 +38,7 @@ impl fmt::Display for Aside {
             Self::NamePayload => f.write_str("a Store into a name's payload"),
             Self::Nan => f.write_str("a NaN result of DAdd, DSub, DMul or DDiv"),
             Self::NotUtf8 => f.write_str("a name that is not UTF-8"),
+            Self::MadeUp => f.write_str("a made-up state"),
         }
     }
 }
@@ -169,7 +171,9 @@ fn bytes(model: &Model, ours: &[u8], theirs: &[u8]) -> Option<String> {
     let mut theirs = theirs.to_vec();
     for block in &model.blocks {
         let payload = (block.at - model.state.base) as usize;
-        theirs[payload - 7..payload].copy_from_slice(&ours[payload - 7..payload]);
+        if payload <= ours.len().min(theirs.len()) {
+            theirs[payload - 7..payload].copy_from_slice(&ours[payload - 7..payload]);
+        }
     }
     let at = ours.iter().zip(&theirs).position(|(a, b)| a != b)?;
     Some(format!("page byte {at:x}h: model {:02x}h, other {:02x}h", ours[at], theirs[at]))

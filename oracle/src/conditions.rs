@@ -21,6 +21,9 @@ impl Compared for Original {
     const REFUSES: bool = false;
 
     fn asked(call: &Call, answer: Answer, model: &Model) -> Ask {
+        if matches!(call, Call::MakeUp { .. }) {
+            return Ask::SetAside(Aside::MadeUp);
+        }
         match answer {
             // `try_alloc` answers `None` where the heap cannot hold a block; above this a `Layout` cannot be made
             Answer::Refused(ALLOCATION_REFUSED) if matches!(call, Call::Allocate { size, .. } if *size < 1 << 40) => Ask::Make,

@@ -27,6 +27,23 @@ pub enum Call {
     NewOption(Option<u64>),
     Intern(Vec<u8>),
     InternSmall { len: u64, word: u64 },
+    /// No call of the machine: the host hands back another state or buffer than it got. What 9 is there for.
+    MakeUp { field: Field, value: u64 },
+}
+
+/// What a host can hand back otherwise.
+#[derive(Clone, Copy, Debug, PartialEq)]
+pub enum Field {
+    Depth,
+    Pushed,
+    /// the last page's place
+    Page,
+    Len,
+    /// active slots
+    Active,
+    Names,
+    Frame(usize),
+    Slot(usize),
 }
 
 #[derive(Clone, Copy, Debug, PartialEq, Eq)]

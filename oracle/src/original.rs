@@ -176,7 +176,7 @@ fn numbers_of(value: &impl fmt::Debug) -> Vec<u64> {
 }
 
 impl Original {
-    /// `Err` also where the system does not give the addresses: `mapped` tells.
+    /// `None` where the system does not give the addresses.
     pub fn lend(lent: Lent) -> Option<Self> {
         let heap = Box::new(Heap::map(lent.base as usize, lent.heap as usize)?);
         // SAFETY: `heap` stays where it is and outlives `vm`, which is dropped first
@@ -273,6 +273,7 @@ impl Machine for Original {
                 // SAFETY: only UTF-8 names are compared
                 Answer::Value(unsafe { vm.new_string_from_small(len as usize, word) }.0)
             }
+            Call::MakeUp { .. } => unreachable!("the original's state is its own"),
         }
     }
 

@@ -1,5 +1,6 @@
-//! Every damaged text is answered: by a listed number or by a whole report.
+//! Every damaged text is answered: by a listed number or by a whole report. So is every made-up state.
 use oracle::generate;
+use oracle::machine::{Answer, Machine};
 use oracle::model::Model;
 use oracle::text::report;
 use std::collections::BTreeMap;
@@ -32,5 +33,24 @@ fn damaged_texts_are_answered() {
     // a generator that came to few ends would show little
     for end in ["00", "01", "02", "03", "05", "06", "02 alone", "0a alone", "0d alone", "0e alone", "0f alone", "13 alone"] {
         assert!(seen.contains_key(end), "{end} is missing among {seen:?}");
+    }
+}
+
+#[test]
+fn made_up_states_are_answered() {
+    let mut numbers = [0; 20];
+    for number in 0..TEXTS / 4 {
+        let case = generate::made_up(1, number);
+        let mut model = Model::start(case.lent, &case.images[0]).unwrap();
+        for call in &case.calls {
+            let number = match model.call(&case.images, call) {
+                Answer::End { number, .. } | Answer::Refused(number) => number,
+                Answer::Done | Answer::Value(_) => continue,
+            };
+            numbers[number as usize] += 1;
+        }
+    }
+    for number in [0, 1, 2, 3, 5, 8, 9, 13, 17, 18] {
+        assert!(numbers[number] > 0, "{number} is missing: {numbers:?}");
     }
 }

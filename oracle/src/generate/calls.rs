@@ -4,7 +4,7 @@ use super::rng::Rng;
 use super::values;
 use crate::case::Case;
 use crate::image::Image;
-use crate::machine::{Answer, Call, Lent, Machine, PAGE};
+use crate::machine::{Answer, Call, Field, Lent, Machine, PAGE};
 use crate::model::Model;
 
 /// A terminal of some size.
@@ -32,12 +32,12 @@ pub fn programs(rng: &mut Rng) -> Case {
     let lent = lent(rng);
     let mut calls = Vec::new();
     let names = intern(rng, lent, &mut calls);
-    let mut images = vec![program::image(rng, &names, lent.frames)];
+    let mut images = vec![program::image(rng, &names, lent)];
     calls.push(Call::Run { image: 0, budget: BUDGET });
     while rng.one_in(4) {
         match rng.below(4) {
             0 => {
-                images.push(program::image(rng, &names, lent.frames));
+                images.push(program::image(rng, &names, lent));
                 calls.extend([Call::Reset, Call::SetPc(0)]);
                 calls.push(Call::Run { image: images.len() - 1, budget: BUDGET });
             }
@@ -112,7 +112,7 @@ pub fn list(rng: &mut Rng) -> Case {
     let lent = lent(rng);
     let mut calls = Vec::new();
     let names = intern(rng, lent, &mut calls);
-    let images = vec![program::image(rng, &names, lent.frames), program::image(rng, &names, lent.frames), Image::default()];
+    let images = vec![program::image(rng, &names, lent), program::image(rng, &names, lent), Image::default()];
     for _ in 0..rng.from_to(5, 60) {
         match rng.below(12) {
             0 => calls.extend([Call::Reset, Call::SetPc(0), Call::Run { image: rng.below(2) as usize, budget: BUDGET }]),
@@ -125,6 +125,38 @@ pub fn list(rng: &mut Rng) -> Case {
         }
     }
     Case { lent, images, calls }
+}
+
+/// A list with states and buffers made up in places, at the edges of what 9 tests.
+pub fn made_up(rng: &mut Rng) -> Case {
+    let mut case = list(rng);
+    for _ in 0..rng.from_to(1, 4) {
+        let at = rng.below(case.calls.len() as u64 + 1) as usize;
+        let (heap, frames, slots) = (case.lent.heap, case.lent.frames, case.lent.slots);
+        let words = case.images[0].code.len() as u64;
+        let near = |rng: &mut Rng, n: u64| n.wrapping_add(rng.below(3)).wrapping_sub(1);
+        let page = PAGE * rng.below(heap / PAGE + 2);
+        let page = near(rng, page);
+        let (field, value) = match rng.below(8) {
+            0 => (Field::Depth, near(rng, frames)),
+            1 => (Field::Pushed, page),
+            2 => (Field::Page, page),
+            3 => {
+                let len = *rng.one_of(&[0, 32, PAGE, 2 * PAGE]);
+                (Field::Len, near(rng, len))
+            }
+            4 => (Field::Active, *rng.one_of(&[0, 32, 64, 96, 128, slots, slots * 2])),
+            5 => (Field::Names, rng.below(40)),
+            6 => (Field::Frame(rng.below(frames) as usize), near(rng, words)),
+            _ => {
+                let address = case.lent.base + rng.one_of(&[0, 16, 48, PAGE, heap, heap - 8]);
+                (Field::Slot(rng.below(slots) as usize), near(rng, address))
+            }
+        };
+        let value = if rng.one_in(8) { values::int(rng) } else { value };
+        case.calls.insert(at, Call::MakeUp { field, value });
+    }
+    case
 }
 
 /// Names past each growth, and again.

@@ -47,7 +47,7 @@ pub fn case(rng: &mut Rng) -> Case {
 /// An image's text, damaged in most cases: a byte changed, a line dropped, doubled or cut.
 pub fn text(rng: &mut Rng) -> Vec<u8> {
     let lent = calls::lent(rng);
-    let mut image = program::image(rng, &[], lent.frames);
+    let mut image = program::image(rng, &[], lent);
     let mut names = Vec::new();
     for _ in 0..rng.below(5) {
         // at times one that needs pages of its own

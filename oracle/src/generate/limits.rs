@@ -44,7 +44,7 @@ fn sizes(rng: &mut Rng) -> Case {
         4 => lent.base = PAGE * rng.from_to(0, 40) + rng.below(2),
         _ => lent.spare = *rng.one_of(&[0, 64, 128]),
     }
-    let mut case = run(program::image(rng, &[], lent.frames), 10_000, lent);
+    let mut case = run(program::image(rng, &[], lent), 10_000, lent);
     case.calls.insert(0, Call::Intern(values::name(rng)));
     case
 }

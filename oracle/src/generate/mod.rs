@@ -9,6 +9,11 @@ pub mod values;
 use crate::case::Case;
 use rng::Rng;
 
+/// Lists in which the host hands back another state than it got: for machines that give 9, so not for the original.
+pub fn made_up(seed: u64, number: u64) -> Case {
+    calls::made_up(&mut Rng::of(seed, number))
+}
+
 /// An image's text, damaged in most cases.
 pub fn text(seed: u64, number: u64) -> Vec<u8> {
     damage::text(&mut Rng::of(seed, number))

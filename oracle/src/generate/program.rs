@@ -3,6 +3,7 @@
 use super::rng::Rng;
 use super::values;
 use crate::image::{Image, Lookup, Switch};
+use crate::machine::Lent;
 use crate::model::word::op;
 
 // What each register is for, so that a program keeps the original's conditions whatever way it takes.
@@ -37,6 +38,7 @@ struct Builder<'a> {
     uses: Vec<(usize, usize)>,
     functions: usize,
     frames: u64,
+    base: u64,
 }
 
 /// How deep in loops and branches, and how often a statement here is done in one go through the program.
@@ -232,6 +234,9 @@ impl Builder<'_> {
             self.alloc(i);
             return;
         }
+        if self.rng.one_in(8) {
+            return self.others_blocks();
+        }
         let offset = 8 * self.rng.below(self.sizes[i] / 8);
         let (value, dst) = (self.any(), self.int());
         if self.rng.one_in(4) {
@@ -248,6 +253,29 @@ impl Builder<'_> {
             self.emit(word(op::Load, dst, POINTERS[i], 0, offset as u32));
         } else {
             self.emit(word(op::Store, POINTERS[i], value, 0, offset as u32));
+        }
+    }
+
+    /// Blocks that the program did not allocate, and a block's end.
+    fn others_blocks(&mut self) {
+        let (dst, value) = (self.int(), self.any());
+        match (self.rng.below(3), self.names) {
+            (0, [_, ..]) => {
+                // a name's length and hash
+                self.name(WITHIN);
+                self.emit(word(op::Load, dst, WITHIN, 0, 0));
+            }
+            (1, _) => {
+                let none = self.base + 16;
+                self.load(WITHIN, none);
+                let offset = 8 * self.rng.below(2) as u32;
+                self.emit(word(op::Load, dst, WITHIN, 0, offset));
+                self.emit(word(op::Store, WITHIN, value, 0, offset));
+            }
+            _ => {
+                let i = self.rng.below(3) as usize;
+                self.emit(word(op::AddrOf, dst, POINTERS[i], 0, self.sizes[i] as u32));
+            }
         }
     }
 
@@ -424,7 +452,7 @@ impl Builder<'_> {
 }
 
 /// An image over names whose globals are given by place and value; those globals hold their values.
-pub fn image(rng: &mut Rng, names: &[(usize, u64)], frames: u64) -> Image {
+pub fn image(rng: &mut Rng, names: &[(usize, u64)], lent: Lent) -> Image {
     let mut globals = vec![0; names.len()];
     names.iter().for_each(|&(at, value)| globals[at] = value);
     let functions = rng.below(4) as usize;
@@ -435,7 +463,8 @@ pub fn image(rng: &mut Rng, names: &[(usize, u64)], frames: u64) -> Image {
         sizes: [0; 3],
         uses: Vec::new(),
         functions,
-        frames,
+        frames: lent.frames,
+        base: lent.base,
     };
     b.prologue();
     b.statements(At { function: 0, loops: 0, nested: 0, times: 1 }, 3, 14);

@@ -65,10 +65,10 @@ impl Model {
     }
 
     /// The block that an address was allocated as or points into, its end included: between two blocks lies a header, so there
-    /// is at most one. Addresses of blocks only go up.
+    /// is at most one. Addresses of blocks only go up, but for made-up states, which the original never sees.
     pub(super) fn block_of(&self, address: u64) -> Option<Block> {
         let after = self.blocks.partition_point(|block| block.at <= address);
         let block = *self.blocks.get(after.checked_sub(1)?)?;
-        (address - block.at <= block.size).then_some(block)
+        (address.wrapping_sub(block.at) <= block.size).then_some(block)
     }
 }

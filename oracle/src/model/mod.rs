@@ -11,7 +11,7 @@ pub mod word;
 
 use crate::anomaly::{OPERAND, SIZE, SMALL_STRING, STATE};
 use crate::image::Image;
-use crate::machine::{Answer, Call, Lent, Machine, PAGE, View, Whole};
+use crate::machine::{Answer, Call, Field, Lent, Machine, PAGE, View, Whole};
 use std::borrow::Cow;
 
 pub use names::{hash, small_hash, small_word};
@@ -196,6 +196,20 @@ impl Model {
         }
     }
 
+    fn make_up(&mut self, field: Field, value: u64) {
+        let s = &mut self.state;
+        *match field {
+            Field::Depth => &mut s.depth,
+            Field::Pushed => &mut s.pushed,
+            Field::Page => &mut s.page,
+            Field::Len => &mut s.len,
+            Field::Active => &mut s.active,
+            Field::Names => &mut s.names,
+            Field::Frame(i) => &mut self.frames[i],
+            Field::Slot(i) => &mut self.slots[i],
+        } = value;
+    }
+
     fn intern(&mut self, bytes: &[u8]) -> Answer {
         if !self.heap_lent() || !self.slots_lent() {
             return Answer::Refused(SIZE);
@@ -218,6 +232,11 @@ impl Model {
         }
         answer(self.name(&word.to_le_bytes()[..len as usize]))
     }
+}
+
+/// The first n, or all where a made-up state says more.
+fn first<T>(all: &[T], n: u64) -> &[T] {
+    &all[..(all.len() as u64).min(n) as usize]
 }
 
 fn answer(result: Result<u64, u8>) -> Answer {
@@ -278,6 +297,10 @@ impl Machine for Model {
             Call::NewOption(value) => self.new_option(value),
             Call::Intern(ref bytes) => self.intern(bytes),
             Call::InternSmall { len, word } => self.intern_small(len, word),
+            Call::MakeUp { field, value } => {
+                self.make_up(field, value);
+                Answer::Done
+            }
         }
     }
 
@@ -287,11 +310,11 @@ impl Machine for Model {
             regs: Cow::Borrowed(&s.regs),
             pc: s.pc,
             depth: s.depth,
-            frames: Cow::Borrowed(&self.frames[..s.depth as usize]),
-            heap: Cow::Borrowed(&self.heap[..s.pushed as usize]),
+            frames: Cow::Borrowed(first(&self.frames, s.depth)),
+            heap: Cow::Borrowed(first(&self.heap, s.pushed)),
             page: s.page,
             len: s.len,
-            slots: Cow::Borrowed(&self.slots[..s.active as usize]),
+            slots: Cow::Borrowed(first(&self.slots, s.active)),
             names: s.names,
             pages: Some(Cow::Borrowed(&self.pages)),
             whole: Some(Whole {

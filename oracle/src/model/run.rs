@@ -187,7 +187,7 @@ impl Model {
 
     /// Notes whether `bytes` from `base` stay in the block that `base` belongs to; answers whether that is a name's.
     fn stays(&mut self, base: u64, bytes: u64) -> bool {
-        let block = self.block_of(base).filter(|block| base - block.at + bytes <= block.size);
+        let block = self.block_of(base).filter(|block| base.wrapping_sub(block.at).saturating_add(bytes) <= block.size);
         if block.is_none() {
             self.breaks(Condition::Block);
         }
