@@ -43,21 +43,17 @@ impl fmt::Display for Aside {
     }
 }
 
-/// A machine that is compared with the model. One that takes every call, as a proved one does, needs none of the two functions.
+/// A machine that is compared with the model. For one that takes every call, as a proved one does, the name is all.
 pub trait Compared: Machine {
     const NAME: &'static str;
 
-    /// Whether a start that the model took is made.
-    fn can_start(_case: &Case) -> Result<(), Aside> {
-        Ok(())
-    }
+    /// Whether it refuses starts by document 01's numbers; one that does not is asked for those alone that the model takes, and an
+    /// `Err` of it says that it could not be had.
+    const REFUSES: bool = true;
 
     fn asked(_call: &Call, _answer: Answer, _model: &Model) -> Ask {
         Ask::Make
     }
-
-    /// Whether it answers starts that are refused.
-    const REFUSES: bool = true;
 }
 
 #[derive(Clone, Copy, Default, Debug)]
@@ -84,16 +80,11 @@ pub fn compare<M: Compared>(case: &Case, counts: &mut Counts) -> Outcome {
                 Ok(_) => Outcome::Differs(format!("start: refused by {number}, and not refused")),
             };
         }
-        (Ok(model), _) => {
-            if let Err(aside) = M::can_start(case) {
-                return Outcome::Aside(aside);
-            }
-            match M::start(case.lent, image) {
-                Ok(other) => (model, other),
-                Err(_) if !M::REFUSES => return Outcome::Aside(Aside::NotMapped),
-                Err(n) => return Outcome::Differs(format!("start: not refused, and refused by {n}")),
-            }
-        }
+        (Ok(model), _) => match M::start(case.lent, image) {
+            Ok(other) => (model, other),
+            Err(_) if !M::REFUSES => return Outcome::Aside(Aside::NotMapped),
+            Err(n) => return Outcome::Differs(format!("start: not refused, and refused by {n}")),
+        },
     };
     // 'before the first run on non-empty code that frame isn't compared with the Rust'
     let mut ran = M::REFUSES;

@@ -1,6 +1,6 @@
 //! Document 01, 'Its written conditions': what the original is asked, and what it is not.
 use crate::anomaly::{ADDRESS, ALLOCATION_REFUSED, QUOTIENT_OVERFLOW, RET_AT_DEPTH_0, SPENT};
-use crate::compare::{Ask, Aside, Compared};
+use crate::compare::{Aside, Ask, Compared};
 use crate::machine::{Answer, Call};
 use crate::model::{Condition, Model};
 use crate::original::Original;

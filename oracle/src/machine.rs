@@ -19,16 +19,32 @@ pub struct Lent {
 #[derive(Clone, Debug, PartialEq)]
 pub enum Call {
     /// an index into the images of the case
-    Run { image: usize, budget: u64 },
+    Run {
+        image: usize,
+        budget: u64,
+    },
     Reset,
     SetPc(u64),
-    SetRegister { register: u64, value: u64 },
-    Allocate { kind: u64, align: u64, size: u64 },
+    SetRegister {
+        register: u64,
+        value: u64,
+    },
+    Allocate {
+        kind: u64,
+        align: u64,
+        size: u64,
+    },
     NewOption(Option<u64>),
     Intern(Vec<u8>),
-    InternSmall { len: u64, word: u64 },
+    InternSmall {
+        len: u64,
+        word: u64,
+    },
     /// No call of the machine: the host hands back another state or buffer than it got. What 9 is there for.
-    MakeUp { field: Field, value: u64 },
+    MakeUp {
+        field: Field,
+        value: u64,
+    },
 }
 
 /// What a host can hand back otherwise.
@@ -51,7 +67,11 @@ pub enum Answer {
     Done,
     Value(u64),
     /// The original counts no steps.
-    End { number: u8, pc: u64, steps: Option<u64> },
+    End {
+        number: u8,
+        pc: u64,
+        steps: Option<u64>,
+    },
     Refused(u8),
 }
 

@@ -1,7 +1,5 @@
 //! The original, driven: its `Vm` over pages at the paper's own addresses.
-use crate::anomaly::{
-    ALLOCATION_REFUSED, ASSERTION_FAILED, DIVISION_BY_ZERO, HALT, SIZE, STACK_OVERFLOW,
-};
+use crate::anomaly::{ALLOCATION_REFUSED, ASSERTION_FAILED, DIVISION_BY_ZERO, HALT, SIZE, STACK_OVERFLOW};
 use crate::image::Image;
 use crate::machine::{Answer, Call, Lent, Machine, View};
 use purple_garden_allocators::page::Heap;
@@ -71,17 +69,8 @@ fn op(word: u64, switches: &[Box<SwitchTable>], lookups: &[Box<LookupTable>]) ->
         33 => Op::JmpNeI { lhs: a, imm, target },
         34 => Op::JmpSEq { lhs: a, rhs: fourth, target },
         35 => Op::JmpSNe { lhs: a, rhs: fourth, target },
-        36 => Op::Switch {
-            kind: switch_kind(a.into()),
-            subject: b,
-            table: NonNull::from(&*switches[high as usize]),
-        },
-        37 => Op::Lookup {
-            kind: switch_kind(c.into()),
-            dst,
-            subject: b,
-            table: NonNull::from(&*lookups[high as usize]),
-        },
+        36 => Op::Switch { kind: switch_kind(a.into()), subject: b, table: NonNull::from(&*switches[high as usize]) },
+        37 => Op::Lookup { kind: switch_kind(c.into()), dst, subject: b, table: NonNull::from(&*lookups[high as usize]) },
         38 => Op::Tail { func: high },
         39 => Op::Call { func: high },
         50 => Op::CastToInt { dst, src: b },

@@ -130,14 +130,7 @@ impl Text {
     }
 
     pub fn lent(&self) -> Lent {
-        Lent {
-            base: self.base,
-            heap: self.pages * PAGE,
-            frames: self.frames,
-            slots: self.slots,
-            spare: self.slots,
-            fill: 0,
-        }
+        Lent { base: self.base, heap: self.pages * PAGE, frames: self.frames, slots: self.slots, spare: self.slots, fill: 0 }
     }
 }
 

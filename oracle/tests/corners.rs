@@ -378,7 +378,8 @@ fn budgets() {
     // budget 0 where there is nothing to run
     assert_eq!(same(Case { calls: vec![Call::Run { image: 0, budget: 0 }], ..program(&[], &[]) }).0[0], end(0, 0, 0));
     // spent before an instruction that would fail
-    let failing = Case { calls: vec![Call::Run { image: 0, budget: 1 }], ..program(&[nop, word(op::Assert, 0, 0, 0, 0), HALT], &[]) };
+    let failing =
+        Case { calls: vec![Call::Run { image: 0, budget: 1 }], ..program(&[nop, word(op::Assert, 0, 0, 0, 0), HALT], &[]) };
     assert_eq!(aside(failing, Aside::End(SPENT)).0[0], end(5, 1, 1));
 }
 
@@ -415,7 +416,15 @@ fn options() {
 fn jumps() {
     // r1 is 1 where the jump was taken
     let taken = |jump: u64, globals: &[u64]| {
-        let code = [word(op::LoadG, 0, 0, 0, 0), word(op::LoadG, 2, 0, 0, 1), jump | 5 << 16, HALT, HALT, word(op::LoadI, 1, 0, 0, 1), HALT];
+        let code = [
+            word(op::LoadG, 0, 0, 0, 0),
+            word(op::LoadG, 2, 0, 0, 1),
+            jump | 5 << 16,
+            HALT,
+            HALT,
+            word(op::LoadI, 1, 0, 0, 1),
+            HALT,
+        ];
         same(program(&code, globals)).1.state.regs[1]
     };
     let j = |opcode, high| word(opcode, 0, 0, 0, high);
@@ -463,7 +472,8 @@ fn blocks_and_the_conditions() {
     assert_eq!(same(program(&to(12), &[])).1.state.regs[1], B + 60);
     aside(program(&to(13), &[]), Aside::OutsideBlock);
     // 'string payloads are written only from strings'
-    let mut over = program(&[word(op::LoadG, 0, 0, 0, 0), word(op::Load, 1, 0, 0, 0), word(op::Store, 0, 1, 0, 0), HALT], &[B + 48]);
+    let mut over =
+        program(&[word(op::LoadG, 0, 0, 0, 0), word(op::Load, 1, 0, 0, 0), word(op::Store, 0, 1, 0, 0), HALT], &[B + 48]);
     over.calls.insert(0, intern("gold"));
     aside(over, Aside::NamePayload);
 }

@@ -19,12 +19,8 @@ fn code(words: &[u64]) -> Image {
 
 /// One global, one table a kind.
 fn refused(w: u64) -> Option<u8> {
-    let image = Image {
-        code: vec![w, HALT],
-        globals: vec![0],
-        switches: vec![Switch::default()],
-        lookups: vec![Lookup::default()],
-    };
+    let image =
+        Image { code: vec![w, HALT], globals: vec![0], switches: vec![Switch::default()], lookups: vec![Lookup::default()] };
     start(LENT, &image)
 }
 

@@ -42,7 +42,11 @@ pub fn programs(rng: &mut Rng) -> Case {
                 calls.push(Call::Run { image: images.len() - 1, budget: BUDGET });
             }
             1 => {
-                calls.extend([Call::Reset, Call::SetPc(0), Call::SetRegister { register: rng.below(10), value: values::int(rng) }]);
+                calls.extend([
+                    Call::Reset,
+                    Call::SetPc(0),
+                    Call::SetRegister { register: rng.below(10), value: values::int(rng) },
+                ]);
                 calls.push(Call::Run { image: 0, budget: BUDGET });
             }
             // from where it stands
@@ -77,7 +81,7 @@ fn host_call(rng: &mut Rng) -> Call {
         6..9 => {
             // at times with too many bytes or with padding that is not zero
             let len = if rng.one_in(12) { rng.below(12) } else { rng.below(9) };
-            let word = values_word(rng, len);
+            let word = small_word(rng, len);
             Call::InternSmall { len, word }
         }
         9..13 => Call::Allocate {
@@ -99,7 +103,7 @@ fn host_call(rng: &mut Rng) -> Call {
 }
 
 /// The word of a small name; mostly of letters, as `values::name` makes them.
-fn values_word(rng: &mut Rng, len: u64) -> u64 {
+fn small_word(rng: &mut Rng, len: u64) -> u64 {
     if rng.one_in(20) {
         return rng.word();
     }

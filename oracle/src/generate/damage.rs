@@ -15,7 +15,6 @@ pub fn case(rng: &mut Rng) -> Case {
         let words = image.code.len() as u64;
         let at = rng.below(words) as usize;
         match rng.below(8) {
-            // past the prologue a changed word is more often reached in a machine that still has its blocks
             0..=2 => image.code[at] ^= 1 << rng.below(64),
             3 => image.code[at] = image.code[at] & !(0xff << 8) | rng.below(33) << 8,
             4 => image.code.swap(at, rng.below(words) as usize),

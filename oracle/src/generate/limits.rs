@@ -40,7 +40,10 @@ fn sizes(rng: &mut Rng) -> Case {
             lent.slots = *rng.one_of(&[0, 1, 32, 63, 64, 65, 96, 128, 4096, 8192]);
             lent.spare = if rng.one_in(3) { 64 } else { lent.slots };
         }
-        3 => lent.base = *rng.one_of(&[0, 1, 4095, 4096, 4097, 8192, 1 << 47, (1 << 48) - 8 * PAGE, (1 << 48) - 7 * PAGE, !0 << 12]),
+        3 => {
+            lent.base =
+                *rng.one_of(&[0, 1, 4095, 4096, 4097, 8192, 1 << 47, (1 << 48) - 8 * PAGE, (1 << 48) - 7 * PAGE, !0 << 12])
+        }
         4 => lent.base = PAGE * rng.from_to(0, 40) + rng.below(2),
         _ => lent.spare = *rng.one_of(&[0, 64, 128]),
     }
@@ -76,7 +79,8 @@ fn frames(rng: &mut Rng) -> Case {
         code.push(word(op::Ret, 0, 0, 0, 0));
     }
     code.push(HALT);
-    let shorter = Image { code: code[code.len() / 2..].iter().filter(|&&w| w & 0xff != 39).copied().collect(), ..Image::default() };
+    let shorter =
+        Image { code: code[code.len() / 2..].iter().filter(|&&w| w & 0xff != 39).copied().collect(), ..Image::default() };
     let mut calls = vec![Call::Run { image: 0, budget: 100 }];
     for _ in 0..rng.below(4) {
         calls.push(match rng.below(5) {
@@ -140,12 +144,7 @@ fn big_image(rng: &mut Rng) -> Case {
 /// Budgets 0, 1, exact and one less.
 fn budgets(rng: &mut Rng) -> Case {
     let turns = rng.from_to(1, 5);
-    let code = vec![
-        word(op::LoadI, 0, 0, 0, turns as u32),
-        word(op::ISubI, 0, 0, 0, 1),
-        word(op::JmpNeI, 0, 1, 0, 0),
-        HALT,
-    ];
+    let code = vec![word(op::LoadI, 0, 0, 0, turns as u32), word(op::ISubI, 0, 0, 0, 1), word(op::JmpNeI, 0, 1, 0, 0), HALT];
     let steps = 2 + 2 * turns;
     let budget = *rng.one_of(&[0, 1, steps - 1, steps, steps + 1]);
     let mut case = run(Image { code, ..Image::default() }, budget, small());

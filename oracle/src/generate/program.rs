@@ -14,7 +14,7 @@ const POINTERS: [u64; 3] = [16, 17, 18];
 const WITHIN: u64 = 19;
 const NAMES: [u64; 3] = [20, 21, 22];
 const CONDITION: u64 = 23;
-/// One for each level of loops, in the program and in its functions.
+/// One for each level of loops: three in the program, three in the first function, one in those after it.
 const COUNTERS: [u64; 7] = [24, 25, 26, 27, 28, 29, 30];
 const RECURSION: u64 = 31;
 
@@ -180,7 +180,8 @@ impl Builder<'_> {
     fn arithmetic(&mut self) {
         let (dst, lhs, rhs) = (self.int(), self.any(), self.any());
         if self.rng.one_in(2) {
-            let opcode = *self.rng.one_of(&[op::IAdd, op::ISub, op::IMul, op::IAnd, op::ILt, op::IGt, op::IEq, op::IDiv, op::IMod]);
+            let opcode =
+                *self.rng.one_of(&[op::IAdd, op::ISub, op::IMul, op::IAnd, op::ILt, op::IGt, op::IEq, op::IDiv, op::IMod]);
             // a divisor that is not zero, most times
             if matches!(opcode, op::IDiv | op::IMod) && !self.rng.one_in(12) {
                 let divisor = self.rng.from_to(1, 40) as u32;
@@ -321,11 +322,10 @@ impl Builder<'_> {
     }
 
     fn repeat(&mut self, at: At) {
-        let counter = COUNTERS[(at.function * 3 + at.loops).min(COUNTERS.len() - 1)];
-        // a function's loops share the last counter with none around them
-        if at.function * 3 + at.loops >= COUNTERS.len() {
+        // each level of each function has its own, so that no loop around this one loses its count
+        let Some(&counter) = COUNTERS.get(at.function * 3 + at.loops) else {
             return self.arithmetic();
-        }
+        };
         let times = self.rng.from_to(1, (60 / at.times).clamp(1, 12));
         self.emit(word(op::LoadI, counter, 0, 0, times as u32));
         let head = self.here() as u64;

@@ -104,8 +104,7 @@ impl Model {
     /// below the last word's place'.
     fn frames_belong(&self, words: u64) -> bool {
         let depth = self.state.depth;
-        depth <= self.frames.len() as u64
-            && (words == 0 || (1..depth).all(|i| self.frames[i as usize] < words - 1))
+        depth <= self.frames.len() as u64 && (words == 0 || (1..depth).all(|i| self.frames[i as usize] < words - 1))
     }
 
     /// 9, of pages.
@@ -127,9 +126,7 @@ impl Model {
             return false;
         }
         let filled = self.slots[..active as usize].iter().filter(|&&v| v != 0);
-        s.names == filled.clone().count() as u64
-            && s.names * 2 <= active
-            && filled.clone().all(|&v| self.reaches(v, 8))
+        s.names == filled.clone().count() as u64 && s.names * 2 <= active && filled.clone().all(|&v| self.reaches(v, 8))
     }
 
     /// Whether so many bytes from an address are in pushed pages.
@@ -317,12 +314,7 @@ impl Machine for Model {
             slots: Cow::Borrowed(first(&self.slots, s.active)),
             names: s.names,
             pages: Some(Cow::Borrowed(&self.pages)),
-            whole: Some(Whole {
-                frames: &self.frames,
-                heap: &self.heap,
-                slots: &self.slots,
-                spare: &self.spare,
-            }),
+            whole: Some(Whole { frames: &self.frames, heap: &self.heap, slots: &self.slots, spare: &self.spare }),
         }
     }
 }
