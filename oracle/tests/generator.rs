@@ -1,8 +1,17 @@
 //! The generated programs do something: every carried instruction is executed, and runs come to every end.
 use oracle::generate;
+use oracle::generate::values::SAME_HASH;
 use oracle::machine::{Answer, Call, Machine};
-use oracle::model::Model;
 use oracle::model::word::{Format, ROWS};
+use oracle::model::{Model, hash};
+
+#[test]
+fn names_of_one_hash() {
+    for (one, other) in SAME_HASH {
+        assert_eq!((hash(one.as_bytes()), one.len()), (hash(other.as_bytes()), other.len()));
+        assert_ne!(one, other);
+    }
+}
 
 const CASES: u64 = 1500;
 

@@ -5,7 +5,7 @@ use super::values;
 use crate::case::Case;
 use crate::image::Image;
 use crate::machine::{Answer, Call, Field, Lent, Machine, PAGE};
-use crate::model::Model;
+use crate::model::{self, Model};
 
 /// A terminal of some size.
 pub fn lent(rng: &mut Rng) -> Lent {
@@ -79,6 +79,10 @@ fn host_call(rng: &mut Rng) -> Call {
     match rng.below(20) {
         0..6 => Call::Intern(values::name(rng)),
         6..9 => {
+            let name = values::name(rng);
+            if name.len() <= 8 {
+                return Call::InternSmall { len: name.len() as u64, word: model::small_word(&name) };
+            }
             // at times with too many bytes or with padding that is not zero
             let len = if rng.one_in(12) { rng.below(12) } else { rng.below(9) };
             let word = small_word(rng, len);
@@ -102,7 +106,7 @@ fn host_call(rng: &mut Rng) -> Call {
     }
 }
 
-/// The word of a small name; mostly of letters, as `values::name` makes them.
+/// The word of a small name, mostly of letters.
 fn small_word(rng: &mut Rng, len: u64) -> u64 {
     if rng.one_in(20) {
         return rng.word();

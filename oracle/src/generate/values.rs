@@ -54,8 +54,17 @@ const INTS: [u64; 16] = [
     0xffff_ffff_8000_0000,
 ];
 
+/// About halfway between two doubles, where `CastToDouble` rounds to even.
+fn halfway(rng: &mut Rng) -> u64 {
+    let shift = rng.from_to(1, 10);
+    let significand = 1 << 52 | rng.word() >> 12;
+    let n = (significand << shift) + (1 << (shift - 1)) + rng.below(3) - 1;
+    if rng.one_in(2) { n } else { n.wrapping_neg() }
+}
+
 pub fn int(rng: &mut Rng) -> u64 {
-    match rng.below(4) {
+    match rng.below(5) {
+        4 => halfway(rng),
         0 => *rng.one_of(&INTS),
         1 => rng.below(100).wrapping_sub(50),
         // so many bits, so that sums and products wrap now and then
@@ -89,8 +98,23 @@ pub fn imm(rng: &mut Rng) -> u32 {
     }
 }
 
+/// Names of one length and one hash each, so that the bytes decide: for every way in which the original compares.
+pub const SAME_HASH: [(&str, &str); 7] = [
+    ("Yu'", "=Q4"),
+    ("Ko+!", "Jf1!"),
+    (")xxxt.!", "3xxx6/!"),
+    ("Nxxxx-#!", "0xxxxc.!"),
+    ("fxxxxx$#!", "Qxxxxx8(!"),
+    ("kxxxxxxxxxxxx4#!", "oxxxxxxxxxxxx_/!"),
+    ("4xxxxxxxxxxxxx.\"!", "?xxxxxxxxxxxxxB6!"),
+];
+
 /// A name: short ones often, of each length about the 8 bytes of a chunk.
 pub fn name(rng: &mut Rng) -> Vec<u8> {
+    if rng.one_in(10) {
+        let (one, other) = *rng.one_of(&SAME_HASH);
+        return if rng.one_in(2) { one } else { other }.into();
+    }
     let len = match rng.below(8) {
         0 => 0,
         1..=4 => rng.from_to(1, 9),
