@@ -99,13 +99,15 @@ pub fn imm(rng: &mut Rng) -> u32 {
 }
 
 /// Names of one length and one hash each, so that the bytes decide: for every way in which the original compares.
-pub const SAME_HASH: [(&str, &str); 7] = [
+pub const SAME_HASH: [(&str, &str); 9] = [
     ("Yu'", "=Q4"),
     ("Ko+!", "Jf1!"),
     (")xxxt.!", "3xxx6/!"),
+    ("E^!xxxx", "A/<xxxx"),
     ("Nxxxx-#!", "0xxxxc.!"),
     ("fxxxxx$#!", "Qxxxxx8(!"),
     ("kxxxxxxxxxxxx4#!", "oxxxxxxxxxxxx_/!"),
+    ("Yr+!xxxxxxxxxxxx", "Ii;!xxxxxxxxxxxx"),
     ("4xxxxxxxxxxxxx.\"!", "?xxxxxxxxxxxxxB6!"),
 ];
 
