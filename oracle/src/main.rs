@@ -26,7 +26,7 @@ fn main() -> ExitCode {
             ExitCode::SUCCESS
         }),
         ["rust", file] => input(file).map_or(ExitCode::from(2), |input| by_the_original(&input)),
-        ["compare", ref options @ ..] => comparison(options),
+        ["compare", ref options @ ..] => comparison::<Original>(options),
         _ => {
             eprintln!("{USAGE}");
             ExitCode::from(2)
@@ -73,7 +73,7 @@ fn by_the_original(input: &[u8]) -> ExitCode {
     ExitCode::SUCCESS
 }
 
-fn comparison(options: &[&str]) -> ExitCode {
+fn comparison<M: Compared>(options: &[&str]) -> ExitCode {
     let (mut cases, mut seed, mut from) = (100_000, 1, 0);
     for option in options.chunks(2) {
         let number = option.get(1).and_then(|n| n.parse::<u64>().ok());
@@ -94,10 +94,9 @@ fn comparison(options: &[&str]) -> ExitCode {
         for number in from..from + cases {
             now.set(number);
             guard::seconds(20);
-            let case = generate::case(seed, number);
-            if let Err(what) = tally.add::<Original>(&case) {
-                println!("{tally}\nseed {seed}, case {number}: the model and {} differ: {what}", Original::NAME);
-                return 1;
+            if let Err(what) = tally.add::<M>(&generate::case_for::<M>(seed, number)) {
+                println!("{tally}\nseed {seed}, case {number}: the model and {} differ: {what}", M::NAME);
+                return DIFFERS;
             }
         }
         print!("{tally}");
@@ -105,12 +104,15 @@ fn comparison(options: &[&str]) -> ExitCode {
     });
     match ended {
         Ended::Exit(0) => return ExitCode::SUCCESS,
-        Ended::Exit(_) => {}
-        Ended::Signal(signal) => println!("seed {seed}, case {}: {} dies by signal {signal}", now.get(), Original::NAME),
+        Ended::Exit(DIFFERS) => {}
+        Ended::Exit(_) => println!("seed {seed}, case {}: a panic", now.get()),
+        Ended::Signal(signal) => println!("seed {seed}, case {}: {} dies by signal {signal}", now.get(), M::NAME),
     }
-    smallest::<Original>(generate::case(seed, now.get()));
+    smallest::<M>(generate::case_for::<M>(seed, now.get()));
     ExitCode::FAILURE
 }
+
+const DIFFERS: u8 = 1;
 
 /// Prints the smallest input found that still shows a difference.
 fn smallest<M: Compared>(case: Case) {
