@@ -1,0 +1,138 @@
+//! `oracle report FILE`, `oracle rust FILE`, `oracle compare --cases N --seed S`.
+use oracle::case::Case;
+use oracle::compare::{Compared, Counts, Outcome, Tally, compare};
+use oracle::guard::{self, Ended, Shared};
+use oracle::machine::{Answer, Call, Machine};
+use oracle::model::Model;
+use oracle::original::Original;
+use oracle::shrink::shrink;
+use oracle::{generate, text};
+use std::fmt::Display;
+use std::process::ExitCode;
+
+const USAGE: &str = "\
+oracle report FILE        the image runner's report, by the model
+oracle rust FILE          the same by the original; 3 where its conditions are not kept
+oracle compare [--cases N] [--seed S] [--from I]
+                          generated cases, the model and the original side by side
+FILE is an image's text, - for standard input";
+
+fn main() -> ExitCode {
+    let args: Vec<String> = std::env::args().skip(1).collect();
+    let args: Vec<&str> = args.iter().map(String::as_str).collect();
+    match args[..] {
+        ["report", file] => input(file).map_or(ExitCode::from(2), |input| {
+            print!("{}", text::report::<Model>(&input));
+            ExitCode::SUCCESS
+        }),
+        ["rust", file] => input(file).map_or(ExitCode::from(2), |input| by_the_original(&input)),
+        ["compare", ref options @ ..] => comparison::<Original>(options),
+        _ => {
+            eprintln!("{USAGE}");
+            ExitCode::from(2)
+        }
+    }
+}
+
+fn input(file: &str) -> Option<Vec<u8>> {
+    let read = if file == "-" {
+        let mut bytes = Vec::new();
+        std::io::Read::read_to_end(&mut std::io::stdin(), &mut bytes).map(|_| bytes)
+    } else {
+        std::fs::read(file)
+    };
+    read.map_err(|error| eprintln!("oracle: {file}: {error}")).ok()
+}
+
+/// The report, by the original alone but for the steps, which it does not count.
+fn by_the_original(input: &[u8]) -> ExitCode {
+    let aside = |why: &dyn Display| {
+        eprintln!("oracle: not run in the Rust: {why}");
+        ExitCode::from(3)
+    };
+    let Some(case) = text::case(input) else {
+        return aside(&format!("the runner refuses the image, {}", text::report::<Model>(input).trim_end()));
+    };
+    match compare::<Original>(&case, &mut Counts::default()) {
+        Outcome::Same => {}
+        Outcome::Aside(why) => return aside(&why),
+        Outcome::Differs(what) => {
+            eprintln!("oracle: the model and the Rust differ: {what}");
+            return ExitCode::FAILURE;
+        }
+    }
+    let run = |machine: &mut dyn FnMut(&Call) -> Answer| case.calls.iter().map(machine).last();
+    let mut model = Model::start(case.lent, &case.images[0]).expect("it was started before");
+    let mut original = Original::lend(case.lent).expect("it was started before");
+    let counted = run(&mut |call| model.call(&case.images, call));
+    let told = run(&mut |call| original.call(&case.images, call));
+    let (Some(Answer::End { number, pc, .. }), Some(Answer::End { steps, .. })) = (told, counted) else {
+        unreachable!("the last call is a run");
+    };
+    print!("{}", text::printed(&original, Answer::End { number, pc, steps }));
+    ExitCode::SUCCESS
+}
+
+fn comparison<M: Compared>(options: &[&str]) -> ExitCode {
+    let (mut cases, mut seed, mut from) = (100_000, 1, 0);
+    for option in options.chunks(2) {
+        let number = option.get(1).and_then(|n| n.parse::<u64>().ok());
+        match (option[0], number) {
+            ("--cases", Some(n)) => cases = n,
+            ("--seed", Some(n)) => seed = n,
+            ("--from", Some(n)) => from = n,
+            _ => {
+                eprintln!("{USAGE}");
+                return ExitCode::from(2);
+            }
+        }
+    }
+    // in a child, which tells at which case it is: see `guard`
+    let now = Shared::new();
+    let ended = guard::child(|| {
+        let mut tally = Tally::default();
+        for number in from..from + cases {
+            now.set(number);
+            guard::seconds(20);
+            if let Err(what) = tally.add::<M>(&generate::case_for::<M>(seed, number)) {
+                println!("{tally}\nseed {seed}, case {number}: the model and {} differ: {what}", M::NAME);
+                return DIFFERS;
+            }
+        }
+        print!("{tally}");
+        0
+    });
+    match ended {
+        Ended::Exit(0) => return ExitCode::SUCCESS,
+        Ended::Exit(DIFFERS) => {}
+        Ended::Exit(_) => println!("seed {seed}, case {}: a panic", now.get()),
+        Ended::Signal(signal) => println!("seed {seed}, case {}: {} dies by signal {signal}", now.get(), M::NAME),
+    }
+    smallest::<M>(generate::case_for::<M>(seed, now.get()));
+    ExitCode::FAILURE
+}
+
+const DIFFERS: u8 = 1;
+
+/// Prints the smallest input found that still shows a difference.
+fn smallest<M: Compared>(case: Case) {
+    let differs = |case: &Case| match compare::<M>(case, &mut Counts::default()) {
+        Outcome::Differs(what) => Some(what),
+        _ => None,
+    };
+    let fails = |case: &Case| {
+        let ended = guard::child(|| {
+            guard::seconds(1);
+            std::panic::set_hook(Box::new(|_| {}));
+            u8::from(differs(case).is_some())
+        });
+        !matches!(ended, Ended::Exit(0))
+    };
+    let case = shrink(case, fails);
+    println!("the smallest input that shows it:\n{case}");
+    guard::child(|| {
+        guard::seconds(1);
+        println!("{}", differs(&case).unwrap_or_default());
+        0
+    });
+}
