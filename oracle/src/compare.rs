@@ -58,7 +58,11 @@ pub trait Compared: Machine {
 
 #[derive(Clone, Copy, Default, Debug)]
 pub struct Counts {
+    /// runs of at least one step, and their steps
     pub programs: u64,
+    pub steps: u64,
+    /// runs with nothing to run, or stopped at the first instruction
+    pub idle: u64,
     pub host_calls: u64,
     pub passed_over: u64,
 }
@@ -109,7 +113,10 @@ pub fn compare<M: Compared>(case: &Case, counts: &mut Counts) -> Outcome {
         match call {
             Call::Run { image, .. } => {
                 ran |= !case.images[*image].code.is_empty();
-                counts.programs += 1;
+                let steps = steps_of(answer);
+                counts.programs += u64::from(steps > 0);
+                counts.idle += u64::from(steps == 0);
+                counts.steps += steps;
             }
             _ => counts.host_calls += 1,
         }
@@ -118,6 +125,13 @@ pub fn compare<M: Compared>(case: &Case, counts: &mut Counts) -> Outcome {
         }
     }
     Outcome::Same
+}
+
+fn steps_of(answer: Answer) -> u64 {
+    match answer {
+        Answer::End { steps, .. } => steps.unwrap_or(0),
+        _ => 0,
+    }
 }
 
 /// The first thing in which two machines differ, of all that document 01 compares.
@@ -195,8 +209,9 @@ impl Tally {
 
 impl fmt::Display for Tally {
     fn fmt(&self, f: &mut fmt::Formatter<'_>) -> fmt::Result {
-        let Counts { programs, host_calls, passed_over } = self.counts;
+        let Counts { programs, steps, idle, host_calls, passed_over } = self.counts;
         writeln!(f, "{} cases: {programs} programs and {host_calls} host calls compared", self.cases)?;
+        writeln!(f, "{steps} steps in those programs; {idle} more runs without a step compared")?;
         writeln!(f, "{passed_over} refused calls answered by the model alone")?;
         let aside: u64 = self.aside.values().sum();
         writeln!(f, "{aside} cases set aside from some call on:")?;

@@ -25,7 +25,7 @@ impl Compared for Original {
             return Ask::SetAside(Aside::MadeUp);
         }
         match answer {
-            // `try_alloc` answers `None` where the heap cannot hold a block; above this a `Layout` cannot be made
+            // `try_alloc` says so where the heap cannot hold a block, for sizes that a `Layout` takes
             Answer::Refused(ALLOCATION_REFUSED) if matches!(call, Call::Allocate { size, .. } if *size < 1 << 40) => Ask::Make,
             Answer::Refused(_) => Ask::PassOver,
             Answer::End { number, .. }

@@ -133,8 +133,9 @@ fn slots_of<'a>(table: &'a StrTable, fields: &TableFields) -> &'a [u64] {
 #[derive(Default)]
 struct Numbers {
     found: Vec<u64>,
-    /// the number that is being read, its base, and whether a digit was the last thing read
+    /// the number that is being read, and its base
     now: Option<(u64, u64)>,
+    /// whether a word is being read, whose digits are no numbers
     word: bool,
 }
 

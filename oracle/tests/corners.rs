@@ -131,10 +131,21 @@ fn names_lie_where_the_paper_says() {
     let (answers, model) = same(calls(vec![intern(""), intern("a"), intern("a")]));
     assert_eq!(answers, [Answer::Value(B + 48), Answer::Value(B + 72), Answer::Value(B + 72)]);
     assert_eq!((model.state.len, model.state.names), (81, 2));
+    // a block of 9 bytes, kind String; length, hash, `a`
+    let mut block = vec![9, 0, 0, 0, 0, 0, 0, 0, 3, 0, 0, 0, 0, 0, 0, 0, 1, 0, 0, 0];
+    block.extend(purple_garden_runtime::string::hash(b"a").to_le_bytes());
+    block.push(b'a');
+    assert_eq!(model.heap[56..81], block);
     // by the small call too
     let small = |len, word| Call::InternSmall { len, word };
     let (answers, _) = same(calls(vec![small(0, 0), small(1, 0x61), intern("a"), intern("")]));
     assert_eq!(answers, [B + 48, B + 72, B + 72, B + 48].map(Answer::Value));
+}
+
+#[test]
+fn names_are_bytes() {
+    let (answers, _) = aside(calls(vec![Call::Intern(vec![0xff])]), Aside::NotUtf8);
+    assert_eq!(answers, [Answer::Value(B + 48)]);
 }
 
 #[test]
@@ -330,6 +341,17 @@ fn ret_from_the_root() {
     assert_eq!((answers[2], model.state.depth, model.state.pc), (end(8, 0, 0), 0, 0));
 }
 
+/// At depth 0 a `Call` takes frame 0, and its `Ret` gives it back.
+#[test]
+fn call_at_depth_0() {
+    let code = [word(op::Ret, 0, 0, 0, 0), word(op::Call, 0, 0, 0, 3), HALT, word(op::Ret, 0, 0, 0, 0), HALT];
+    let mut case = program(&code, &[]);
+    case.calls.extend([Call::SetPc(1), Call::Run { image: 0, budget: 9 }]);
+    let (answers, model) = same(case);
+    assert_eq!((answers[0], answers[2]), (end(0, 4, 2), end(0, 2, 3)));
+    assert_eq!((model.state.depth, model.frames[0]), (0, 1));
+}
+
 #[test]
 fn call_and_tail() {
     // 0: Call 3; 1: LoadI r2; 2: Halt; 3: Tail 5; 4: Nop; 5: LoadI r1; 6: Ret; 7: Halt
@@ -454,6 +476,9 @@ fn addresses() {
     assert_eq!((loaded(B - 8, 0), loaded(0, 0)), (six, six));
     // 'an unwrapped sum'
     assert_eq!(loaded(u64::MAX - 7, B as u32 + 8), six);
+    let stopped = program(&[word(op::Nop, 0, 0, 0, 0), word(op::Load, 1, 0, 0, 0), HALT], &[]);
+    let (answers, model) = aside(stopped, Aside::End(ADDRESS));
+    assert_eq!((answers[0], model.state.pc), (six, 0));
     // '`AddrOf` wraps and checks nothing'
     let code = [word(op::LoadG, 0, 0, 0, 0), word(op::AddrOf, 1, 0, 0, 9), HALT];
     let (answers, model) = aside(program(&code, &[u64::MAX]), Aside::OutsideBlock);
