@@ -1,0 +1,320 @@
+//! Girzhanok, the rating machine: a safe interface to its proved library.
+//!
+//! A machine is a [`State`] and four buffers: frames, heap, slots and spare. The caller keeps the buffers and lends them to each call,
+//! whole and as the last call left them. Whatever is lent, a call returns: it is done, it ends a run, or it is refused by a number, and
+//! then nothing is changed.
+//!
+//! ```
+//! use girzhanok::{End, Image, State};
+//!
+//! // LoadI r0, 7; IAddI r1, r0, -1; Halt
+//! let image = Image { code: &[0x0000_0007_0000_001b, 0xffff_ffff_0000_0101, 59], ..Image::EMPTY };
+//! let (mut frames, mut heap) = ([0; 4], vec![0; 4096]);
+//! let (slots, spare) = ([0; 64], [0; 64]);
+//!
+//! let mut state = State::start(65536, &image, &mut frames, &mut heap, &slots, &spare)?;
+//! let ran = state.run(10, &image, &mut frames, &mut heap)?;
+//! assert_eq!((ran.end, ran.pc, ran.steps), (End::Halt, 2, 3));
+//! assert_eq!(state.registers()[1], 6);
+//! # Ok::<(), girzhanok::Refusal>(())
+//! ```
+//!
+//! Memory safety rests on the borrow rules, which keep the lent buffers apart, and on the library's proof, which keeps every access
+//! inside them.
+#![warn(missing_docs)]
+
+mod ffi;
+mod numbers;
+
+pub use numbers::{End, Refusal};
+
+/// How many words a state has.
+pub const STATE_WORDS: usize = 40;
+
+/// How many registers a machine has.
+pub const REGISTERS: usize = 32;
+
+/// How many bytes a page has: a heap is whole pages, and its base a multiple of this.
+pub const PAGE_SIZE: usize = 4096;
+
+const PC: usize = 32;
+const DEPTH: usize = 33;
+const NAMES: usize = 39;
+
+/// What a machine is lent to run.
+#[derive(Clone, Copy, Debug)]
+pub struct Image<'a> {
+    /// Instruction words.
+    pub code: &'a [u64],
+    /// Values that LoadG loads.
+    pub globals: &'a [u64],
+    /// The tables of Switch; their entries are places in the code.
+    pub switches: Tables<'a>,
+    /// The tables of Lookup; their entries are values.
+    pub lookups: Tables<'a>,
+    /// Of each Lookup table its default.
+    pub defaults: &'a [u64],
+}
+
+/// Tables of one kind, all entries in a row.
+#[derive(Clone, Copy, Debug)]
+pub struct Tables<'a> {
+    /// Of each table its first key.
+    pub firsts: &'a [u64],
+    /// Of each table where its entries end; they begin where those of the one before end.
+    pub ends: &'a [u64],
+    /// The entries of all tables.
+    pub entries: &'a [u64],
+}
+
+impl Tables<'static> {
+    /// No table.
+    pub const EMPTY: Self = Tables { firsts: &[], ends: &[], entries: &[] };
+}
+
+impl Image<'static> {
+    /// No code, no globals, no tables.
+    pub const EMPTY: Self = Image { code: &[], globals: &[], switches: Tables::EMPTY, lookups: Tables::EMPTY, defaults: &[] };
+}
+
+/// What a block is allocated as.
+#[derive(Clone, Copy, Debug, PartialEq, Eq)]
+pub enum Kind {
+    /// A record, 0.
+    Record,
+    /// An array, 1.
+    Array,
+    /// An option, 2.
+    Option,
+    /// A string, 3.
+    String,
+}
+
+/// How a run ended.
+#[derive(Clone, Copy, Debug, PartialEq, Eq)]
+pub struct Ran {
+    /// Why it ended.
+    pub end: End,
+    /// The place of the instruction that ended it, or of the next where the budget is completed.
+    pub pc: usize,
+    /// Instructions completed.
+    pub steps: u32,
+}
+
+/// What a machine keeps between calls, beside its buffers.
+#[derive(Clone, Debug, PartialEq, Eq)]
+pub struct State {
+    words: [u64; STATE_WORDS],
+}
+
+/// A call's number, where it has no other end than done.
+fn done(number: u64) -> Result<(), Refusal> {
+    if number == End::Halt.number() {
+        Ok(())
+    } else {
+        Err(Refusal::from_number(number))
+    }
+}
+
+impl State {
+    /// A machine with an empty heap at `base`. Frame 0 and page 0 of the heap are written; of `slots` and `spare` the sizes are read.
+    pub fn start(base: u64, image: &Image, frames: &mut [u64], heap: &mut [u8], slots: &[u64], spare: &[u64]) -> Result<State, Refusal> {
+        let mut state = State { words: [0; STATE_WORDS] };
+        // SAFETY: each pointer comes with its slice's length, and the borrows keep the slices that are written apart from all others.
+        done(unsafe {
+            ffi::girzhanok_start(
+                state.words.as_mut_ptr(),
+                STATE_WORDS,
+                base,
+                image.code.as_ptr(),
+                image.code.len(),
+                image.globals.as_ptr(),
+                image.globals.len(),
+                image.switches.firsts.as_ptr(),
+                image.switches.firsts.len(),
+                image.switches.ends.as_ptr(),
+                image.switches.ends.len(),
+                image.switches.entries.as_ptr(),
+                image.switches.entries.len(),
+                image.lookups.firsts.as_ptr(),
+                image.lookups.firsts.len(),
+                image.lookups.ends.as_ptr(),
+                image.lookups.ends.len(),
+                image.lookups.entries.as_ptr(),
+                image.lookups.entries.len(),
+                image.defaults.as_ptr(),
+                image.defaults.len(),
+                frames.as_mut_ptr(),
+                frames.len(),
+                heap.as_mut_ptr(),
+                heap.len(),
+                slots.as_ptr(),
+                slots.len(),
+                spare.as_ptr(),
+                spare.len(),
+            )
+        })?;
+        Ok(state)
+    }
+
+    /// Runs `image` from the stored pc on, `budget` instructions at most.
+    pub fn run(&mut self, budget: u32, image: &Image, frames: &mut [u64], heap: &mut [u8]) -> Result<Ran, Refusal> {
+        let (mut pc, mut steps) = (0, 0);
+        // SAFETY: as for `start`.
+        let number = unsafe {
+            ffi::girzhanok_run(
+                self.words.as_mut_ptr(),
+                STATE_WORDS,
+                budget,
+                image.code.as_ptr(),
+                image.code.len(),
+                image.globals.as_ptr(),
+                image.globals.len(),
+                image.switches.firsts.as_ptr(),
+                image.switches.firsts.len(),
+                image.switches.ends.as_ptr(),
+                image.switches.ends.len(),
+                image.switches.entries.as_ptr(),
+                image.switches.entries.len(),
+                image.lookups.firsts.as_ptr(),
+                image.lookups.firsts.len(),
+                image.lookups.ends.as_ptr(),
+                image.lookups.ends.len(),
+                image.lookups.entries.as_ptr(),
+                image.lookups.entries.len(),
+                image.defaults.as_ptr(),
+                image.defaults.len(),
+                frames.as_mut_ptr(),
+                frames.len(),
+                heap.as_mut_ptr(),
+                heap.len(),
+                &mut pc,
+                &mut steps,
+            )
+        };
+        match End::from_number(number) {
+            Some(end) => Ok(Ran { end, pc, steps }),
+            None => Err(Refusal::from_number(number)),
+        }
+    }
+
+    /// Back to before the first run: pc 2^64 − 1, depth 1, frame 0. Registers, heap and names stay.
+    pub fn reset(&mut self, frames: &mut [u64]) -> Result<(), Refusal> {
+        // SAFETY: as for `start`.
+        done(unsafe { ffi::girzhanok_reset(self.words.as_mut_ptr(), STATE_WORDS, frames.as_mut_ptr(), frames.len()) })
+    }
+
+    /// Sets the pc that the next run begins at.
+    pub fn set_pc(&mut self, pc: usize) {
+        // SAFETY: as for `start`. A state of 40 words is never refused.
+        unsafe { ffi::girzhanok_set_pc(self.words.as_mut_ptr(), STATE_WORDS, pc) };
+    }
+
+    /// Sets a register; above 31 it is refused.
+    pub fn set_register(&mut self, number: usize, value: u64) -> Result<(), Refusal> {
+        // SAFETY: as for `start`.
+        done(unsafe { ffi::girzhanok_set_register(self.words.as_mut_ptr(), STATE_WORDS, number, value) })
+    }
+
+    /// The address of a new block of `size` bytes; `align` is 1, 2, 4 or 8.
+    pub fn allocate(&mut self, kind: Kind, align: usize, size: u64, heap: &mut [u8]) -> Result<u64, Refusal> {
+        let mut value = 0;
+        // SAFETY: as for `start`.
+        done(unsafe {
+            ffi::girzhanok_allocate(self.words.as_mut_ptr(), STATE_WORDS, kind as u64, align, size, heap.as_mut_ptr(), heap.len(), &mut value)
+        })?;
+        Ok(value)
+    }
+
+    /// The address of an option.
+    pub fn option(&mut self, payload: Option<u64>, heap: &mut [u8]) -> Result<u64, Refusal> {
+        let mut value = 0;
+        // SAFETY: as for `start`.
+        done(unsafe {
+            ffi::girzhanok_option(
+                self.words.as_mut_ptr(),
+                STATE_WORDS,
+                payload.is_some(),
+                payload.unwrap_or(0),
+                heap.as_mut_ptr(),
+                heap.len(),
+                &mut value,
+            )
+        })?;
+        Ok(value)
+    }
+
+    /// The one address of a name.
+    pub fn intern(&mut self, name: &[u8], heap: &mut [u8], slots: &mut [u64], spare: &mut [u64]) -> Result<u64, Refusal> {
+        let mut value = 0;
+        // SAFETY: as for `start`.
+        done(unsafe {
+            ffi::girzhanok_intern(
+                self.words.as_mut_ptr(),
+                STATE_WORDS,
+                name.as_ptr(),
+                name.len(),
+                heap.as_mut_ptr(),
+                heap.len(),
+                slots.as_mut_ptr(),
+                slots.len(),
+                spare.as_mut_ptr(),
+                spare.len(),
+                &mut value,
+            )
+        })?;
+        Ok(value)
+    }
+
+    /// The one address of the name in the `len` lowest bytes of `word`, the first one lowest.
+    pub fn intern_small(&mut self, len: usize, word: u64, heap: &mut [u8], slots: &mut [u64], spare: &mut [u64]) -> Result<u64, Refusal> {
+        let mut value = 0;
+        // SAFETY: as for `start`.
+        done(unsafe {
+            ffi::girzhanok_intern_small(
+                self.words.as_mut_ptr(),
+                STATE_WORDS,
+                len,
+                word,
+                heap.as_mut_ptr(),
+                heap.len(),
+                slots.as_mut_ptr(),
+                slots.len(),
+                spare.as_mut_ptr(),
+                spare.len(),
+                &mut value,
+            )
+        })?;
+        Ok(value)
+    }
+
+    /// The registers.
+    pub fn registers(&self) -> &[u64] {
+        &self.words[..REGISTERS]
+    }
+
+    /// The stored pc.
+    pub fn pc(&self) -> u64 {
+        self.words[PC]
+    }
+
+    /// How many frames are in use.
+    pub fn depth(&self) -> u64 {
+        self.words[DEPTH]
+    }
+
+    /// How many names are interned.
+    pub fn names(&self) -> u64 {
+        self.words[NAMES]
+    }
+
+    /// The state as the library has it, to keep it elsewhere.
+    pub fn words(&self) -> &[u64; STATE_WORDS] {
+        &self.words
+    }
+
+    /// A state that was kept elsewhere. Any words are safe: calls refuse what cannot belong to the buffers that they are lent.
+    pub fn from_words(words: [u64; STATE_WORDS]) -> State {
+        State { words }
+    }
+}

@@ -1,0 +1,206 @@
+//! Every call of the library through the safe interface, and refusals that change nothing.
+use girzhanok::{End, Image, Kind, Ran, Refusal, State, Tables, PAGE_SIZE, STATE_WORDS};
+
+const BASE: u64 = 65536;
+
+/// The buffers of a small terminal.
+#[derive(Clone, Debug, PartialEq)]
+struct Lent {
+    frames: Vec<u64>,
+    heap: Vec<u8>,
+    slots: Vec<u64>,
+    spare: Vec<u64>,
+}
+
+impl Lent {
+    fn new(frames: usize, pages: usize, slots: usize) -> Lent {
+        Lent { frames: vec![0; frames], heap: vec![0; pages * PAGE_SIZE], slots: vec![0; slots], spare: vec![0; slots] }
+    }
+
+    fn start(&mut self, image: &Image) -> Result<State, Refusal> {
+        State::start(BASE, image, &mut self.frames, &mut self.heap, &self.slots, &self.spare)
+    }
+
+    fn intern(&mut self, state: &mut State, name: &[u8]) -> Result<u64, Refusal> {
+        state.intern(name, &mut self.heap, &mut self.slots, &mut self.spare)
+    }
+}
+
+fn small() -> Lent {
+    Lent::new(4, 2, 64)
+}
+
+/// LoadI r0, 7; IAddI r1, r0, -1; Halt
+const COUNT: Image = Image { code: &[0x0000_0007_0000_001b, 0xffff_ffff_0000_0101, 59], ..Image::EMPTY };
+
+#[test]
+fn the_worked_image() {
+    let mut lent = Lent::new(4, 1, 64);
+    let mut state = lent.start(&COUNT).unwrap();
+    assert_eq!((state.pc(), state.depth(), state.names()), (0, 1, 0));
+    let ran = state.run(10, &COUNT, &mut lent.frames, &mut lent.heap);
+    assert_eq!(ran, Ok(Ran { end: End::Halt, pc: 2, steps: 3 }));
+    assert_eq!(state.registers()[..3], [7, 6, 0]);
+    assert_eq!((state.pc(), state.depth()), (2, 1));
+}
+
+#[test]
+fn a_budget_is_completed_and_gone_on_with() {
+    let mut lent = small();
+    let mut state = lent.start(&COUNT).unwrap();
+    let ran = state.run(2, &COUNT, &mut lent.frames, &mut lent.heap);
+    assert_eq!(ran, Ok(Ran { end: End::Budget, pc: 2, steps: 2 }));
+    let ran = state.run(2, &COUNT, &mut lent.frames, &mut lent.heap);
+    assert_eq!(ran, Ok(Ran { end: End::Halt, pc: 2, steps: 1 }));
+}
+
+#[test]
+fn a_stopped_run_keeps_the_pc_from_before_it() {
+    let mut lent = small();
+    // LoadI r0, 7; IDiv r1, r0, r2; Halt
+    let image = Image { code: &[0x0000_0007_0000_001b, 0x0000_0000_0200_0106, 59], ..Image::EMPTY };
+    let mut state = lent.start(&image).unwrap();
+    let ran = state.run(10, &image, &mut lent.frames, &mut lent.heap);
+    assert_eq!(ran, Ok(Ran { end: End::DivisionByZero, pc: 1, steps: 1 }));
+    assert_eq!((state.pc(), state.registers()[0]), (0, 7));
+}
+
+#[test]
+fn tables_are_lent_flat() {
+    let mut lent = small();
+    // Lookup r1, r0, Int, table 1; Switch Int r0, table 0; Halt; LoadI r2, 5; Halt
+    let code = [0x0000_0001_0100_0125, 0x0000_0000_0000_0124, 59, 0x0000_0005_0000_021b, 59];
+    let image = Image {
+        code: &code,
+        switches: Tables { firsts: &[10], ends: &[2], entries: &[2, 3] },
+        lookups: Tables { firsts: &[0, 10], ends: &[1, 3], entries: &[1, 20, 30] },
+        defaults: &[8, 9],
+        ..Image::EMPTY
+    };
+    for (subject, value, loaded, steps) in [(10, 20, 0, 3), (11, 30, 5, 4), (12, 9, 0, 3)] {
+        let mut state = lent.start(&image).unwrap();
+        state.set_register(0, subject).unwrap();
+        let ran = state.run(10, &image, &mut lent.frames, &mut lent.heap).unwrap();
+        assert_eq!((ran.end, ran.steps), (End::Halt, steps), "subject {subject}");
+        assert_eq!(state.registers()[1..3], [value, loaded], "subject {subject}");
+    }
+}
+
+#[test]
+fn one_name_has_one_address() {
+    let mut lent = Lent::new(1, 2, 128);
+    let mut state = lent.start(&Image::EMPTY).unwrap();
+    assert_eq!(lent.intern(&mut state, b""), Ok(BASE + 48));
+    assert_eq!(lent.intern(&mut state, b"a"), Ok(BASE + 72));
+    assert_eq!(lent.intern(&mut state, b"a"), Ok(BASE + 72));
+    let word = u64::from(b'a');
+    assert_eq!(state.intern_small(1, word, &mut lent.heap, &mut lent.slots, &mut lent.spare), Ok(BASE + 72));
+    assert_eq!(state.names(), 2);
+    let addresses: Vec<u64> = (0..40u8).map(|i| lent.intern(&mut state, &[b'n', i]).unwrap()).collect();
+    let again: Vec<u64> = (0..40u8).map(|i| lent.intern(&mut state, &[b'n', i]).unwrap()).collect();
+    assert_eq!((addresses, state.names()), (again, 42));
+}
+
+#[test]
+fn blocks_and_options() {
+    let mut lent = small();
+    let mut state = lent.start(&Image::EMPTY).unwrap();
+    assert_eq!(state.option(None, &mut lent.heap), Ok(BASE + 16));
+    assert_eq!(state.allocate(Kind::Record, 8, 4049, &mut lent.heap), Ok(BASE + 4112));
+    assert_eq!(state.option(Some(77), &mut lent.heap), Err(Refusal::Memory));
+    let mut state = lent.start(&Image::EMPTY).unwrap();
+    assert_eq!(state.option(Some(77), &mut lent.heap), Ok(BASE + 48));
+    assert_eq!(lent.heap[48..64], [1, 0, 0, 0, 0, 0, 0, 0, 77, 0, 0, 0, 0, 0, 0, 0]);
+}
+
+#[test]
+fn reset_leaves_registers_and_names() {
+    let mut lent = small();
+    let mut state = lent.start(&COUNT).unwrap();
+    lent.intern(&mut state, b"gold").unwrap();
+    state.run(10, &COUNT, &mut lent.frames, &mut lent.heap).unwrap();
+    state.reset(&mut lent.frames).unwrap();
+    assert_eq!((state.pc(), state.depth(), state.names(), state.registers()[1]), (u64::MAX, 1, 1, 6));
+    assert_eq!(lent.frames[0], u64::MAX);
+    state.set_pc(1);
+    let ran = state.run(10, &COUNT, &mut lent.frames, &mut lent.heap);
+    assert_eq!(ran, Ok(Ran { end: End::Halt, pc: 2, steps: 2 }));
+}
+
+#[test]
+fn a_refused_start_says_why() {
+    let refused = |lent: Lent, image: &Image, base: u64, why: Refusal| {
+        let mut after = lent.clone();
+        assert_eq!(State::start(base, image, &mut after.frames, &mut after.heap, &after.slots, &after.spare), Err(why));
+        assert_eq!(after, lent);
+    };
+    let code = |words| Image { code: words, ..Image::EMPTY };
+    refused(small(), &COUNT, BASE + 1, Refusal::Size);
+    refused(Lent::new(0, 2, 64), &COUNT, BASE, Refusal::Size);
+    refused(Lent::new(4, 0, 64), &COUNT, BASE, Refusal::Size);
+    refused(Lent::new(4, 2, 63), &COUNT, BASE, Refusal::Size);
+    refused(small(), &code(&[60]), BASE, Refusal::NoHalt);
+    refused(small(), &code(&[40, 59]), BASE, Refusal::Opcode);
+    refused(small(), &code(&[0x201b, 59]), BASE, Refusal::Operand);
+    refused(small(), &code(&[0x0002_001d, 59]), BASE, Refusal::Target);
+    refused(small(), &code(&[0x1c, 59]), BASE, Refusal::Index);
+    let tables = Tables { firsts: &[0], ends: &[1], entries: &[1] };
+    refused(small(), &Image { code: &[59], switches: tables, ..Image::EMPTY }, BASE, Refusal::TableTarget);
+}
+
+#[test]
+fn a_refused_call_changes_nothing() {
+    let mut lent = small();
+    let mut state = lent.start(&COUNT).unwrap();
+    for i in 0..32u8 {
+        lent.intern(&mut state, &[i]).unwrap();
+    }
+    let mut calls: Vec<(Refusal, Box<dyn Fn(&mut State, &mut Lent) -> Result<(), Refusal>>)> = Vec::new();
+    calls.push((Refusal::Operand, Box::new(|s, _| s.set_register(32, 1))));
+    calls.push((Refusal::Size, Box::new(|s, _| s.reset(&mut []))));
+    calls.push((Refusal::Size, Box::new(|s, l| s.run(9, &COUNT, &mut l.frames, &mut []).map(|_| ()))));
+    calls.push((Refusal::NoHalt, Box::new(|s, l| s.run(9, &Image { code: &[60], ..Image::EMPTY }, &mut l.frames, &mut l.heap).map(|_| ()))));
+    calls.push((Refusal::Operand, Box::new(|s, l| s.allocate(Kind::Array, 3, 8, &mut l.heap).map(|_| ()))));
+    calls.push((Refusal::Memory, Box::new(|s, l| s.allocate(Kind::Array, 8, u64::MAX, &mut l.heap).map(|_| ()))));
+    calls.push((Refusal::Size, Box::new(|s, _| s.option(None, &mut []).map(|_| ()))));
+    calls.push((Refusal::TableFull, Box::new(|s, l| l.intern(s, b"the 33rd").map(|_| ()))));
+    calls.push((Refusal::SmallString, Box::new(|s, l| s.intern_small(9, 0, &mut l.heap, &mut l.slots, &mut l.spare).map(|_| ()))));
+    for (why, call) in calls {
+        let (mut after, mut buffers) = (state.clone(), lent.clone());
+        assert_eq!(call(&mut after, &mut buffers), Err(why));
+        assert_eq!((&after, &buffers), (&state, &lent), "{why}");
+    }
+    // words that no call has made
+    let mut words = *state.words();
+    words[33] = 5;
+    let mut foreign = State::from_words(words);
+    assert_eq!(foreign.run(9, &COUNT, &mut lent.frames, &mut lent.heap), Err(Refusal::State));
+    assert_eq!(foreign.words(), &words);
+}
+
+#[test]
+fn any_words_are_safe() {
+    // a generator of Marsaglia's, so that a failure comes again
+    let mut x = 0x9e37_79b9_7f4a_7c15_u64;
+    let mut next = move || {
+        x ^= x << 13;
+        x ^= x >> 7;
+        x ^= x << 17;
+        x
+    };
+    let mut lent = small();
+    let good = lent.start(&COUNT).unwrap();
+    let mut refused = 0;
+    for _ in 0..2000 {
+        let mut words = *good.words();
+        for _ in 0..1 + next() % 4 {
+            let at = (next() % STATE_WORDS as u64) as usize;
+            words[at] = next() >> (next() % 64);
+        }
+        let mut state = State::from_words(words);
+        refused += usize::from(state.run(20, &COUNT, &mut lent.frames, &mut lent.heap).is_err());
+        refused += usize::from(state.allocate(Kind::Record, 8, next() % 64, &mut lent.heap).is_err());
+        refused += usize::from(lent.intern(&mut state, &next().to_le_bytes()[..3]).is_err());
+    }
+    assert!(refused > 0 && refused < 6000, "{refused} of 6000 calls were refused");
+}

@@ -1,0 +1,23 @@
+-- `girzhanok::girzhanok_intern_small` meets its contract. Assumes nothing.
+use Rattle.girzhanok.proofs.Serving.{too-short, served}
+use native.Mathlib.Omega.{arith}
+use borrow.Author.Needs.{needs}
+use Rattle.girzhanok.proofs.girzhanok_intern_small.Statement.{statement}
+use Rattle.girzhanok.proofs.girzhanok_intern_small.Tie as tie
+
+returns : tie.Need-returns
+returns c = λ frames. too-short _ _ _ _ (omega arith)
+
+returns-2 : tie.Need-returns-2
+returns-2 c =
+    let answer = c .before .before in
+    let intern = answer .before .before .before .before .before .before .before .before .before in
+    let unpack = intern .before .before .before .before in
+    λ frames.
+    served _ _ _ _ (unpack .before .before .if1 .left) _ (unpack .unpack .ensures) _ (intern .intern-small .ensures frames) _ _ _ (answer .answer-value .ensures .0) (answer .answer-value .ensures .1) (answer .answer-value .ensures .2)
+
+pub girzhanok-intern-small-spec : {M : Type 1} → statement M
+girzhanok-intern-small-spec =
+    tie.close
+    (tie.spec returns (λ c κs. search needs) (λ c κs. search needs) (λ c κs. search needs) (λ c. search needs) (λ c. search needs)
+    (λ c. search needs) (λ c. search needs) returns-2)

@@ -1,0 +1,40 @@
+-- `girzhanok::words::unpack` meets its contract. Assumes nothing.
+use mathlib.Core.Path.{refl, sym}
+use native.Mathlib.Omega.{arith}
+use lib.Seq.{length-take-le}
+use Rattle.girzhanok.specs.Words.{unpacked}
+use Rattle.girzhanok.proofs.Packing.{over-whole}
+use borrow.Author.Needs.{needs}
+use Rattle.girzhanok.proofs.words.unpack.Statement.{statement}
+use Rattle.girzhanok.proofs.words.unpack.Tie as tie
+
+slice-aggregate-copy-words : tie.Need-slice-aggregate-copy-words
+slice-aggregate-copy-words c =
+    let start = c .before .before in
+    sym (length-take-le 32 (start .args .words .now) (omega arith))
+
+copy-words-requires : tie.Need-copy-words-requires
+copy-words-requires c κs =
+    let start = c .before .before .before in
+    rw (length-take-le 32 (start .args .words .now) (omega arith)) (search needs)
+
+returns : tie.Need-returns
+unfolding unpacked
+returns c =
+    let depth = c in
+    let pc = depth .before .before in
+    let names = pc .before .before in
+    let active = names .before .before in
+    let len = active .before .before in
+    let page = len .before .before in
+    let pushed = page .before .before in
+    let regs = pushed .before .before .before .before in
+    let start = regs .before .before .before .before in
+    rw (regs .copy-words .ensures, pushed .size .ensures, page .size2 .ensures, len .size3 .ensures, active .size4 .ensures, names .size5 .ensures, pc .size6 .ensures, depth .size7 .ensures, over-whole _ _ (length-take-le 32 (start .args .words .now) (omega arith))) refl
+
+pub unpack-spec : {M : Type 1} → statement M
+unpack-spec =
+    tie.close
+    (tie.spec slice-aggregate-copy-words (λ c. search needs) copy-words-requires (λ c. search needs) (λ c. search needs) (λ c κs. search needs)
+    (λ c. search needs) (λ c κs. search needs) (λ c. search needs) (λ c κs. search needs) (λ c. search needs) (λ c κs. search needs)
+    (λ c. search needs) (λ c κs. search needs) (λ c. search needs) (λ c κs. search needs) (λ c. search needs) (λ c κs. search needs) returns)

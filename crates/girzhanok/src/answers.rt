@@ -1,0 +1,71 @@
+// What a call returns and writes: its number, the words of the state, and what is answered beside the number.
+ghost use mathlib.Core.Path.{_≡_};
+ghost use mathlib.Core.List.{[], _∷_};
+ghost use Prim.Native.Nat.{_≤_};
+ghost use lib.ListN.{length};
+ghost use Rattle.vm.specs.Told.{saidOf, optionOf};
+ghost use Rattle.vm.specs.Loop.{answerOf};
+ghost use Rattle.girzhanok.specs.Words.{stateWords};
+ghost use Rattle.girzhanok.specs.Served.{numberOf, answered, given, kept};
+use crate::words::pack;
+use anomaly::End;
+use anomaly::Steps;
+use vm::Called;
+use vm::Opt;
+use vm::Reply;
+use vm::run::Ran;
+
+// The number of a reply. The words of the state are written unless it is a refusal.
+pub fn answer(called: Called, words: &mut [u64]) -> u64
+    requires { ⌜ stateWords ≤ length (now words) ⌝ }
+    ensures { λ r. ⌜ (r ≡ numberOf (saidOf (called .reply))) × (now (words .exit) ≡ kept (saidOf (called .reply)) (called .state) (now (words .entry))) ⌝ }
+{
+    let reply = called.reply;
+    match reply {
+        Reply::Value(_) | Reply::Done => {
+            let state = called.state;
+            pack(state, words);
+            End::HALT
+        }
+        Reply::Refused(why) => why.number(),
+    }
+}
+
+// The same, and the value where there is one.
+pub fn answer_value(called: Called, words: &mut [u64], value: &mut u64) -> u64
+    requires { ⌜ stateWords ≤ length (now words) ⌝ }
+    ensures { λ r. ⌜ (r ≡ numberOf (saidOf (called .reply))) × (now (words .exit) ≡ kept (saidOf (called .reply)) (called .state) (now (words .entry))) × (now (value .exit) ∷ [] ≡ answered (saidOf (called .reply)) (now (value .entry) ∷ [])) ⌝ }
+{
+    let reply = called.reply;
+    match reply {
+        Reply::Value(v) => {
+            *value = v;
+            answer(called, words)
+        }
+        Reply::Done | Reply::Refused(_) => answer(called, words),
+    }
+}
+
+// The same of a run: pc and steps, unless it was refused.
+pub fn answer_run(ran: Ran, words: &mut [u64], pc: &mut usize, steps: &mut Steps) -> u64
+    requires { ⌜ stateWords ≤ length (now words) ⌝ }
+    ensures { λ r. ⌜ (r ≡ numberOf (answerOf (ran .end))) × (now (words .exit) ≡ kept (answerOf (ran .end)) (ran .state) (now (words .entry))) × (now (pc .exit) ∷ now (steps .exit) ∷ [] ≡ answered (answerOf (ran .end)) (now (pc .entry) ∷ now (steps .entry) ∷ [])) ⌝ }
+{
+    let end = ran.end;
+    match end {
+        End::Halt { .. } | End::Budget { .. } | End::Stopped(_) => {
+            let state = ran.state;
+            pack(state, words);
+            *pc = end.pc();
+            *steps = end.steps();
+            end.number()
+        }
+        End::Refused(_) => end.number(),
+    }
+}
+
+pub fn opt(some: bool, payload: u64) -> Opt
+    ensures { λ r. ⌜ optionOf r ≡ given some payload ⌝ }
+{
+    if some { Opt::Some(payload) } else { Opt::None }
+}

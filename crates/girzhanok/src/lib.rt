@@ -1,0 +1,212 @@
+// The machine's calls for C and Rust: include/girzhanok.h says what each one takes and writes. A call on too few words is refused with 10.
+ghost use mathlib.Core.Path.{_≡_};
+ghost use mathlib.Core.List.{List, [], _∷_};
+ghost use Prim.Native.Nat.{ℕ};
+ghost use Rattle.program.specs.Image.{tablesOf, imageOf};
+ghost use Rattle.vm.specs.Machine.{Lent, run, light, reset, putPc, putReg, host, allocate, option, intern, internSmall};
+ghost use Rattle.vm.specs.Told.{lentOf};
+ghost use Rattle.girzhanok.specs.Served.{servedOf, given, serve, serveStart};
+
+mod answers;
+mod words;
+
+use anomaly::End;
+use anomaly::Refusal;
+use anomaly::Steps;
+use answers::answer;
+use answers::answer_run;
+use answers::answer_value;
+use answers::opt;
+use vm::start;
+use words::STATE_WORDS;
+use words::pack;
+use words::unpack;
+
+#[no_mangle]
+pub extern "C" fn girzhanok_start(
+    state: &mut [u64],
+    base: u64,
+    code: &[u64],
+    globals: &[u64],
+    switch_firsts: &[u64],
+    switch_ends: &[u64],
+    switch_entries: &[u64],
+    lookup_firsts: &[u64],
+    lookup_ends: &[u64],
+    lookup_entries: &[u64],
+    defaults: &[u64],
+    frames: &mut [u64],
+    heap: &mut [u8],
+    slots: &[u64],
+    spare: &[u64],
+) -> u64
+    ensures { λ r. ⌜ servedOf r (now (state .exit)) [] (lentOf (now (frames .exit)) (now (heap .exit)) (now (slots .entry)) (now (spare .entry))) ≡ serveStart (imageOf (now (code .entry)) (now (globals .entry)) (tablesOf (now («switch_firsts» .entry)) (now («switch_ends» .entry)) (now («switch_entries» .entry))) (tablesOf (now («lookup_firsts» .entry)) (now («lookup_ends» .entry)) (now («lookup_entries» .entry))) (now (defaults .entry))) base (now (state .entry)) (lentOf (now (frames .entry)) (now (heap .entry)) (now (slots .entry)) (now (spare .entry))) ⌝ }
+{
+    if state.len() < STATE_WORDS {
+        return Refusal::SIZE;
+    }
+    let called = start::start(
+        base,
+        code,
+        globals,
+        switch_firsts,
+        switch_ends,
+        switch_entries,
+        lookup_firsts,
+        lookup_ends,
+        lookup_entries,
+        defaults,
+        frames,
+        heap,
+        slots,
+        spare,
+    );
+    answer(called, state)
+}
+
+#[no_mangle]
+pub extern "C" fn girzhanok_run(
+    state: &mut [u64],
+    budget: Steps,
+    code: &[u64],
+    globals: &[u64],
+    switch_firsts: &[u64],
+    switch_ends: &[u64],
+    switch_entries: &[u64],
+    lookup_firsts: &[u64],
+    lookup_ends: &[u64],
+    lookup_entries: &[u64],
+    defaults: &[u64],
+    frames: &mut [u64],
+    heap: &mut [u8],
+    pc: &mut usize,
+    steps: &mut Steps,
+) -> u64
+    ensures { λ r. ⌜ ((slots spare : List ℕ) → servedOf r (now (state .exit)) (now (pc .exit) ∷ now (steps .exit) ∷ []) (lentOf (now (frames .exit)) (now (heap .exit)) slots spare) ≡ serve (run (imageOf (now (code .entry)) (now (globals .entry)) (tablesOf (now («switch_firsts» .entry)) (now («switch_ends» .entry)) (now («switch_entries» .entry))) (tablesOf (now («lookup_firsts» .entry)) (now («lookup_ends» .entry)) (now («lookup_entries» .entry))) (now (defaults .entry))) budget) (now (state .entry)) (now (pc .entry) ∷ now (steps .entry) ∷ []) (lentOf (now (frames .entry)) (now (heap .entry)) slots spare)) ⌝ }
+{
+    if state.len() < STATE_WORDS {
+        return Refusal::SIZE;
+    }
+    let ran = unpack(state).run(
+        budget,
+        code,
+        globals,
+        switch_firsts,
+        switch_ends,
+        switch_entries,
+        lookup_firsts,
+        lookup_ends,
+        lookup_entries,
+        defaults,
+        frames,
+        heap,
+    );
+    answer_run(ran, state, pc, steps)
+}
+
+#[no_mangle]
+pub extern "C" fn girzhanok_reset(state: &mut [u64], frames: &mut [u64]) -> u64
+    ensures { λ r. ⌜ ((heap slots spare : List ℕ) → servedOf r (now (state .exit)) [] (lentOf (now (frames .exit)) heap slots spare) ≡ serve (light reset) (now (state .entry)) [] (lentOf (now (frames .entry)) heap slots spare)) ⌝ }
+{
+    if state.len() < STATE_WORDS {
+        return Refusal::SIZE;
+    }
+    let called = unpack(state).reset(frames);
+    answer(called, state)
+}
+
+#[no_mangle]
+pub extern "C" fn girzhanok_set_pc(state: &mut [u64], pc: usize) -> u64
+    ensures { λ r. ⌜ ((l : Lent) → servedOf r (now (state .exit)) [] l ≡ serve (light (putPc pc)) (now (state .entry)) [] l) ⌝ }
+{
+    if state.len() < STATE_WORDS {
+        return Refusal::SIZE;
+    }
+    let to = unpack(state).set_pc(pc);
+    pack(to, state);
+    End::HALT
+}
+
+#[no_mangle]
+pub extern "C" fn girzhanok_set_register(state: &mut [u64], number: usize, value: u64) -> u64
+    ensures { λ r. ⌜ ((l : Lent) → servedOf r (now (state .exit)) [] l ≡ serve (light (putReg number value)) (now (state .entry)) [] l) ⌝ }
+{
+    if state.len() < STATE_WORDS {
+        return Refusal::SIZE;
+    }
+    let called = unpack(state).set_register(number, value);
+    answer(called, state)
+}
+
+#[no_mangle]
+pub extern "C" fn girzhanok_allocate(
+    state: &mut [u64],
+    kind: u64,
+    align: usize,
+    size: u64,
+    heap: &mut [u8],
+    value: &mut u64,
+) -> u64
+    ensures { λ r. ⌜ ((frames slots spare : List ℕ) → servedOf r (now (state .exit)) (now (value .exit) ∷ []) (lentOf frames (now (heap .exit)) slots spare) ≡ serve (host (allocate kind align size)) (now (state .entry)) (now (value .entry) ∷ []) (lentOf frames (now (heap .entry)) slots spare)) ⌝ }
+{
+    if state.len() < STATE_WORDS {
+        return Refusal::SIZE;
+    }
+    let called = unpack(state).allocate(kind, align, size, heap);
+    answer_value(called, state, value)
+}
+
+// An option of `payload`, or of none.
+#[no_mangle]
+pub extern "C" fn girzhanok_option(
+    state: &mut [u64],
+    some: bool,
+    payload: u64,
+    heap: &mut [u8],
+    value: &mut u64,
+) -> u64
+    ensures { λ r. ⌜ ((frames slots spare : List ℕ) → servedOf r (now (state .exit)) (now (value .exit) ∷ []) (lentOf frames (now (heap .exit)) slots spare) ≡ serve (host (option (given some payload))) (now (state .entry)) (now (value .entry) ∷ []) (lentOf frames (now (heap .entry)) slots spare)) ⌝ }
+{
+    if state.len() < STATE_WORDS {
+        return Refusal::SIZE;
+    }
+    let called = unpack(state).new_option(opt(some, payload), heap);
+    answer_value(called, state, value)
+}
+
+#[no_mangle]
+pub extern "C" fn girzhanok_intern(
+    state: &mut [u64],
+    name: &[u8],
+    heap: &mut [u8],
+    slots: &mut [u64],
+    spare: &mut [u64],
+    value: &mut u64,
+) -> u64
+    ensures { λ r. ⌜ ((frames : List ℕ) → servedOf r (now (state .exit)) (now (value .exit) ∷ []) (lentOf frames (now (heap .exit)) (now (slots .exit)) (now (spare .exit))) ≡ serve (host (intern (now (name .entry)))) (now (state .entry)) (now (value .entry) ∷ []) (lentOf frames (now (heap .entry)) (now (slots .entry)) (now (spare .entry)))) ⌝ }
+{
+    if state.len() < STATE_WORDS {
+        return Refusal::SIZE;
+    }
+    let called = unpack(state).intern(name, heap, slots, spare);
+    answer_value(called, state, value)
+}
+
+#[no_mangle]
+pub extern "C" fn girzhanok_intern_small(
+    state: &mut [u64],
+    len: usize,
+    word: u64,
+    heap: &mut [u8],
+    slots: &mut [u64],
+    spare: &mut [u64],
+    value: &mut u64,
+) -> u64
+    ensures { λ r. ⌜ ((frames : List ℕ) → servedOf r (now (state .exit)) (now (value .exit) ∷ []) (lentOf frames (now (heap .exit)) (now (slots .exit)) (now (spare .exit))) ≡ serve (host (internSmall len word)) (now (state .entry)) (now (value .entry) ∷ []) (lentOf frames (now (heap .entry)) (now (slots .entry)) (now (spare .entry)))) ⌝ }
+{
+    if state.len() < STATE_WORDS {
+        return Refusal::SIZE;
+    }
+    let called = unpack(state).intern_small(len, word, heap, slots, spare);
+    answer_value(called, state, value)
+}

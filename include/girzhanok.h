@@ -1,0 +1,165 @@
+/* Girzhanok, the rating machine, as a library for C: libgirzhanok.a, which `rt staticlib girzhanok` writes for x86-64 Linux.
+ *
+ * Each function is proved, with no condition on its arguments, to return and leave what the machine's definition says
+ * (crates/girzhanok/src/lib.rt). What C has to keep is what a pointer is, here as everywhere:
+ *
+ *   - A buffer is a pointer and a count of its elements, in this order. The pointer is aligned for its element and has that many
+ *     elements behind it. Where the count is 0 it may be null.
+ *   - `value`, `pc` and `steps` point to one object each and are not null.
+ *   - The buffers and objects that one call may write overlap no other that it is lent.
+ *
+ * The functions keep no memory of their own, so machines in different buffers may run in different threads.
+ *
+ * A machine is its state and four buffers, frames, heap, slots and spare, which the caller keeps and lends to each call whole and as the
+ * last call left them. The address of a heap byte is B, the base given to the start, plus its place: it is a number, and no pointer.
+ */
+#ifndef GIRZHANOK_H
+#define GIRZHANOK_H
+
+#include <stdbool.h>
+#include <stddef.h>
+#include <stdint.h>
+
+#ifdef __cplusplus
+extern "C" {
+#endif
+
+/* ---- limits: a size or a base outside them is refused with GIRZHANOK_SIZE */
+
+#define GIRZHANOK_STATE_WORDS 40        /* words of a state, at least; those past them are left alone */
+#define GIRZHANOK_CODE_MAX 65536        /* words of code, from 0 */
+#define GIRZHANOK_GLOBALS_MAX 4096      /* globals, from 0 */
+#define GIRZHANOK_TABLES_MAX 256        /* tables of a kind */
+#define GIRZHANOK_ENTRIES_MAX 4096      /* entries of all tables of a kind */
+#define GIRZHANOK_FRAMES_MIN 1
+#define GIRZHANOK_FRAMES_MAX 16384
+#define GIRZHANOK_PAGE_SIZE 4096        /* the heap is whole pages; the base is a multiple of this, and not 0 */
+#define GIRZHANOK_PAGES_MIN 1
+#define GIRZHANOK_PAGES_MAX 256
+#define GIRZHANOK_HEAP_END_MAX 281474976710656 /* base plus the heap's length: 2^48 */
+#define GIRZHANOK_SLOTS_MIN 64          /* slots are a power of two, and the spare ones as many */
+#define GIRZHANOK_SLOTS_MAX 4096
+
+/* ---- the words of a state: the 32 registers are words 0 to 31 */
+
+#define GIRZHANOK_REGISTERS 32
+#define GIRZHANOK_WORD_PC 32
+#define GIRZHANOK_WORD_DEPTH 33         /* frames in use */
+#define GIRZHANOK_WORD_BASE 34          /* B */
+#define GIRZHANOK_WORD_PUSHED 35        /* bytes of the heap in pushed pages */
+#define GIRZHANOK_WORD_PAGE 36          /* the last page's place in the heap */
+#define GIRZHANOK_WORD_LEN 37           /* bytes of the last page in use */
+#define GIRZHANOK_WORD_ACTIVE 38        /* slots in use */
+#define GIRZHANOK_WORD_NAMES 39         /* names interned */
+
+/* ---- the numbers that calls return */
+
+enum {
+    /* done; of a run: at a Halt, or nothing to run */
+    GIRZHANOK_HALT = 0,
+
+    /* ends of a run, with pc and steps: the state is that before the instruction at pc, and the stored pc that before the run */
+    GIRZHANOK_DIVISION_BY_ZERO = 1,
+    GIRZHANOK_ALLOCATION_FAILED = 2,
+    GIRZHANOK_STACK_OVERFLOW = 3,       /* a Call with every frame in use */
+    GIRZHANOK_ASSERTION_FAILED = 4,
+    GIRZHANOK_BUDGET = 5,               /* the budget is completed: pc is the next instruction's, and is stored */
+    GIRZHANOK_BAD_ADDRESS = 6,          /* Load or Store outside the pushed pages, or at no multiple of 8 */
+    GIRZHANOK_QUOTIENT_OVERFLOW = 7,    /* -2^63 by -1 */
+    GIRZHANOK_FRAME_UNDERFLOW = 8,      /* Ret at depth 0 */
+
+    /* refusals: nothing that was lent is changed, and nothing is answered but the number */
+    GIRZHANOK_MEMORY = 2,               /* the heap has no room for the allocation */
+    GIRZHANOK_STATE = 9,                /* a state that cannot belong to the buffers */
+    GIRZHANOK_SIZE = 10,                /* a size or the base outside the limits, or too few words of a state */
+    GIRZHANOK_NO_HALT = 11,             /* code that does not end in a Halt */
+    GIRZHANOK_OPCODE = 12,
+    GIRZHANOK_OPERAND = 13,             /* a register above 31, a kind, an alignment, or an unused byte */
+    GIRZHANOK_TARGET = 14,              /* a jump or a function past the code */
+    GIRZHANOK_INDEX = 15,               /* a global or a table past its count */
+    GIRZHANOK_TABLE_TARGET = 16,        /* a table's target past the code */
+    GIRZHANOK_SMALL_STRING = 17,        /* a small name over 8 bytes, or with padding that is not zero */
+    GIRZHANOK_TABLE_FULL = 18,          /* the names need more slots than are lent */
+    GIRZHANOK_TEXT = 19                 /* of image lines alone: no call here returns it */
+};
+
+/* ---- an image, in the order in which it is lent
+ *
+ *   code             instruction words
+ *   globals          values that LoadG loads
+ *   switch_firsts    of each Switch table its first key
+ *   switch_ends      of each Switch table where its entries end in switch_entries; they begin where those of the one before end
+ *   switch_entries   targets, as places in the code, of all Switch tables in a row
+ *   lookup_firsts, lookup_ends, lookup_entries: the same of the Lookup tables; their entries are values
+ *   defaults         of each Lookup table its default
+ */
+
+/* Starts a machine with an empty heap at `base`. Writes the state, frame 0 and page 0 of the heap; of slots and spare it reads the sizes.
+ * Refusals: SIZE, NO_HALT, TABLE_TARGET, then word by word OPCODE, OPERAND, TARGET, INDEX. */
+uint64_t girzhanok_start(uint64_t *state, size_t state_len, uint64_t base,
+                         const uint64_t *code, size_t code_len,
+                         const uint64_t *globals, size_t globals_len,
+                         const uint64_t *switch_firsts, size_t switch_firsts_len,
+                         const uint64_t *switch_ends, size_t switch_ends_len,
+                         const uint64_t *switch_entries, size_t switch_entries_len,
+                         const uint64_t *lookup_firsts, size_t lookup_firsts_len,
+                         const uint64_t *lookup_ends, size_t lookup_ends_len,
+                         const uint64_t *lookup_entries, size_t lookup_entries_len,
+                         const uint64_t *defaults, size_t defaults_len,
+                         uint64_t *frames, size_t frames_len,
+                         uint8_t *heap, size_t heap_len,
+                         const uint64_t *slots, size_t slots_len,
+                         const uint64_t *spare, size_t spare_len);
+
+/* Runs the image from the stored pc on, `budget` instructions at most. Writes the state, frames, the pushed pages of the heap, and unless it
+ * is refused `pc` and `steps`, the instructions completed. Ends 0 to 8; refusals as of a start, then STATE. */
+uint64_t girzhanok_run(uint64_t *state, size_t state_len, uint32_t budget,
+                       const uint64_t *code, size_t code_len,
+                       const uint64_t *globals, size_t globals_len,
+                       const uint64_t *switch_firsts, size_t switch_firsts_len,
+                       const uint64_t *switch_ends, size_t switch_ends_len,
+                       const uint64_t *switch_entries, size_t switch_entries_len,
+                       const uint64_t *lookup_firsts, size_t lookup_firsts_len,
+                       const uint64_t *lookup_ends, size_t lookup_ends_len,
+                       const uint64_t *lookup_entries, size_t lookup_entries_len,
+                       const uint64_t *defaults, size_t defaults_len,
+                       uint64_t *frames, size_t frames_len,
+                       uint8_t *heap, size_t heap_len,
+                       size_t *pc, uint32_t *steps);
+
+/* Back to before the first run: pc 2^64-1, depth 1, frame 0. Registers, heap and names stay. Writes the state and frame 0.
+ * Refusals: SIZE. */
+uint64_t girzhanok_reset(uint64_t *state, size_t state_len, uint64_t *frames, size_t frames_len);
+
+/* Writes the state. Refusals: SIZE, where it has too few words. */
+uint64_t girzhanok_set_pc(uint64_t *state, size_t state_len, size_t pc);
+
+/* Writes the state. Refusals: SIZE, where it has too few words; OPERAND, where the number of the register is above 31. */
+uint64_t girzhanok_set_register(uint64_t *state, size_t state_len, size_t number, uint64_t value);
+
+/* A block of `size` bytes. Kinds: 0 a record, 1 an array, 2 an option, 3 a string; the alignment is 1, 2, 4 or 8. Writes the state, the
+ * pushed pages of the heap, and to `value` the block's address. Refusals: SIZE, OPERAND, STATE, MEMORY. */
+uint64_t girzhanok_allocate(uint64_t *state, size_t state_len, uint64_t kind, size_t align, uint64_t size,
+                            uint8_t *heap, size_t heap_len, uint64_t *value);
+
+/* An option of `payload`, or of none, where `payload` is not looked at. Writes the state, the pushed pages of the heap, and to `value` the
+ * option's address. Refusals: SIZE, STATE, MEMORY. */
+uint64_t girzhanok_option(uint64_t *state, size_t state_len, bool some, uint64_t payload,
+                          uint8_t *heap, size_t heap_len, uint64_t *value);
+
+/* The one address of a name. Writes the state, the pushed pages of the heap, the slots in use, where their number grows the spare ones, and
+ * to `value` the address. Refusals: SIZE, STATE, TABLE_FULL, MEMORY. */
+uint64_t girzhanok_intern(uint64_t *state, size_t state_len, const uint8_t *name, size_t name_len,
+                          uint8_t *heap, size_t heap_len, uint64_t *slots, size_t slots_len, uint64_t *spare, size_t spare_len,
+                          uint64_t *value);
+
+/* The same of the `len` lowest bytes of `word`, the first one lowest. Refusals: SIZE, STATE, SMALL_STRING, TABLE_FULL, MEMORY. */
+uint64_t girzhanok_intern_small(uint64_t *state, size_t state_len, size_t len, uint64_t word,
+                                uint8_t *heap, size_t heap_len, uint64_t *slots, size_t slots_len, uint64_t *spare, size_t spare_len,
+                                uint64_t *value);
+
+#ifdef __cplusplus
+}
+#endif
+
+#endif
