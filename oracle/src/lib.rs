@@ -2,6 +2,7 @@
 pub mod anomaly;
 pub mod case;
 pub mod compare;
+pub mod comparison;
 pub mod conditions;
 pub mod generate;
 pub mod guard;
