@@ -89,33 +89,42 @@ fn runs() {
     }
 }
 
-/// All names once: nanoseconds a name.
-fn intern<M: Machine>(machine: &mut M, calls: &[Call]) -> f64 {
-    let from = Instant::now();
+/// All names once, nanoseconds a name: of the interning, and of the same call refused by 17, which is all its tests and nothing else.
+fn intern<M: Machine>(machine: &mut M, calls: &[Call], refused: &Call) -> [f64; 2] {
+    let mut spent = [0.0; 2];
     for call in calls {
-        std::hint::black_box(machine.call(&[], call));
+        let tests = timed(machine, &[], refused).0;
+        let whole = timed(machine, &[], call).0;
+        spent = [spent[0] + whole, spent[1] + tests];
     }
-    from.elapsed().as_secs_f64() * 1e9 / calls.len() as f64
+    spent.map(|ns| ns / calls.len() as f64)
 }
 
 fn names() {
     let calls: Vec<Call> = (0..2000).map(|i| Call::Intern(format!("tier name {i}").into_bytes())).collect();
-    let image = Image::default();
-    let mut least = [f64::MAX; 4];
+    // the original is not asked for a refusal: in its place stands setting a register, so that the time of the clock is in both
+    let (refused, nothing) = (Call::InternSmall { len: 9, word: 0 }, Call::SetRegister { register: 0, value: 0 });
+    let mut least = [[f64::MAX; 2]; 4];
     for _ in 0..REPEATS {
         let mut original = Original::lend(lent(4096)).expect("the heap's addresses");
-        let mut proved = Proved::start(lent(4096), &image).ok().expect("an image that loads");
-        let theirs = [intern(&mut original, &calls), intern(&mut original, &calls)];
-        // the tests of 9 look at every active slot: 64 at first and 4,096 at last
-        let new = intern(&mut proved, &calls);
-        let again = intern(&mut proved, &calls);
+        let mut proved = Proved::start(lent(4096), &Image::default()).ok().expect("an image that loads");
+        let spent = [
+            intern(&mut original, &calls, &nothing),
+            intern(&mut original, &calls, &nothing),
+            intern(&mut proved, &calls, &refused),
+            intern(&mut proved, &calls, &refused),
+        ];
         assert_eq!(original.view().slots, proved.view().slots);
-        for (i, t) in [theirs[0], theirs[1], new, again].into_iter().enumerate() {
-            least[i] = least[i].min(t);
+        for (least, now) in least.iter_mut().zip(spent) {
+            *least = [least[0].min(now[0]), least[1].min(now[1])];
         }
     }
-    row("a new name of 2,000, tests of 9 included", least[0], least[2]);
-    row("a name of 2,000 again, tests of 9 included", least[1], least[3]);
+    let without = |t: [f64; 2]| t[0] - t[1];
+    let [new, again, our_new, our_again] = least;
+    row("a new name of 2,000, without the tests", without(new), without(our_new));
+    row("a name of 2,000 again, without the tests", without(again), without(our_again));
+    println!("| the tests of 10 and 9, as names are new: 64 to 4,096 slots | | {:.2} | |", our_new[1]);
+    println!("| the tests of 10 and 9, at 4,096 slots | | {:.2} | |", our_again[1]);
 }
 
 fn main() {
