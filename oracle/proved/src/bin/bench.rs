@@ -119,12 +119,12 @@ fn names() {
             *least = [least[0].min(now[0]), least[1].min(now[1])];
         }
     }
-    let without = |t: [f64; 2]| t[0] - t[1];
+    // what is left of ours without the tests is less than the noise of the tests: no ratio is made of the difference
     let [new, again, our_new, our_again] = least;
-    row("a new name of 2,000, without the tests", without(new), without(our_new));
-    row("a name of 2,000 again, without the tests", without(again), without(our_again));
-    println!("| the tests of 10 and 9, as names are new: 64 to 4,096 slots | | {:.2} | |", our_new[1]);
-    println!("| the tests of 10 and 9, at 4,096 slots | | {:.2} | |", our_again[1]);
+    for (what, theirs, ours) in [("a new name of 2,000", new, our_new), ("a name of 2,000 again", again, our_again)] {
+        println!("| {what}, tests of 10 and 9 included | {:.0} | {:.0} | |", theirs[0] - theirs[1], ours[0]);
+        println!("| the tests alone | | {:.0} | |", ours[1]);
+    }
 }
 
 fn main() {
