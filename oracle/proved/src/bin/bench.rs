@@ -119,7 +119,7 @@ fn names() {
             *least = [least[0].min(now[0]), least[1].min(now[1])];
         }
     }
-    // what is left of ours without the tests is less than the noise of the tests: no ratio is made of the difference
+    // no ratio is made of the difference: it is a few hundredths of either number
     let [new, again, our_new, our_again] = least;
     for (what, theirs, ours) in [("a new name of 2,000", new, our_new), ("a name of 2,000 again", again, our_again)] {
         println!("| {what}, tests of 10 and 9 included | {:.0} | {:.0} | |", theirs[0] - theirs[1], ours[0]);
