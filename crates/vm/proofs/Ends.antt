@@ -23,7 +23,8 @@ use Rattle.vm.specs.Run.{Step, next, halted, stop, step, Ran, after, go,
 use Rattle.vm.specs.Names.{Given}
 use Rattle.vm.specs.Machine.{Lent, Machine, sizes, landOf, view, Call, run, light, host, Host, Answer, ended, value, done, refused, ran, idle, runs, runCall, act, hosted, granted, hostCall, framesOk, heapOk, slotsOk, returnsOk, framesBelong, pagesBelong, tests, tried, perform, Started, declined, begun, starts, start}
 use Rattle.vm.proofs.Fits.{fits-of, view-fits}
-use Rattle.vm.proofs.Refusals.{failing-cons, failing-numbered, image-alone, call-numbered}
+use Rattle.program.proofs.Tests.{failing-cons}
+use Rattle.vm.proofs.Refusals.{failing-numbered, image-alone, call-numbered}
 use Rattle.vm.proofs.Upward.{go-next, go-halted, go-stop}
 use Rattle.vm.proofs.Kept.{GoodStep, step-good}
 use Rattle.vm.proofs.Runs.{runs-go, runs-past}

@@ -26,7 +26,7 @@ use Rattle.vm.specs.Told.{lentOf, machineOf}
 use Rattle.vm.specs.Loop.{machineAt, Returns, Loaded, Going, Finished, finishes, finished, storedPc}
 use Rattle.program.proofs.Asks.{difference}
 use Rattle.vm.proofs.Fits.{view-fits}
-use Rattle.vm.proofs.Refusals.{failing-cons}
+use Rattle.program.proofs.Tests.{failing-cons, failing-here, failing-later}
 use Rattle.vm.proofs.Buffers.{frames-room, heap-low}
 use Rattle.vm.proofs.Replies.{over-first}
 use Rattle.vm.proofs.Runs.{runs-go, runs-past}
@@ -56,20 +56,6 @@ listed-known b e n h = by (eqb e 0) (eqb e 5) refl refl
             rw (z, le-leb 6 e (omega arith), le-leb e 8 most, le-leb 1 e (omega arith)) refl
 
 -- ---- the tests: of the image, then of the state
-
-failing-here : (ts us : List Test) (k : ℕ) → failing ts ≡ some k → failing (ts ++ us) ≡ some k
-unfolding failing
-failing-here [] us k e = let z : _≡_ {A = ℕ} 0 1 = cc in absurd (omega arith)
-failing-here (t ∷ ts) us k e = by (t .passes) refl (failing-here ts us k) (unfold failing in e)
-  where
-    by : (p : Bool) → t .passes ≡ p → (failing ts ≡ some k → failing (ts ++ us) ≡ some k) → (elim p [ true ↦ failing ts | false ↦ some (t .number) ]) ≡ some k → failing (t ∷ ts ++ us) ≡ some k
-    by true p ih q = rw p (ih q)
-    by false p ih q = rw p q
-
-failing-later : (ts us : List Test) → failing ts ≡ none → failing (ts ++ us) ≡ failing us
-unfolding failing
-failing-later [] us e = refl
-failing-later (t ∷ ts) us e = let k = failing-cons t ts e in rw (k .0) (failing-later ts us (k .1))
 
 module _ (im : Image) (b : ℕ) (s : State) (frames heap : List ℕ) where
   -- a run is lent no slots

@@ -3,7 +3,7 @@ use mathlib.Core.Path.{_≡_, refl, sym, ap, ap₂, _∙_}
 use Prim.Native.Nat.{ℕ, zero, suc, _+_, _-_, _*_, _/_, _^_, _≤_, _<_}
 use mathlib.Core.Bool.{Bool, true, false, not, _&&_, _||_}
 use mathlib.Core.Option.{Option, none, some}
-use mathlib.Core.List.{List, _++_, append-nil}
+use mathlib.Core.List.{List, [], _∷_, _++_, append-nil}
 use native.Mathlib.Omega.{arith}
 use native.Mathlib.Numerals.{add-one}
 use native.Mathlib.Nat.{div-add-mod', mod-lt, div-eq-of-lt}
@@ -11,14 +11,19 @@ use lib.ListN.{length, take, drop, length-append, length-replicate, length-drop,
 use lib.Seq.{length-take-le}
 use lib.Dec.{leb, ltb, eqb}
 use lib.Pow.{pow-add, pow-pos}
+use types.Run.{OneOf, miss}
+use denote.Enum.Declared.{tagOf}
 use borrow.Author.Tests.{leb-true, le-leb, lt-leb, ltb-true, ltb-false, lt-ltb, le-ltb, eqb-true, eqb-false, eq-eqb, ne-eqb, not-true, not-false}
 use Rattle.memory.specs.Bytes.{bytesOf}
 use Rattle.memory.specs.Lists.{over, write}
 use Rattle.memory.proofs.Over.{over-is, over-take, over-write, take-over, tail-home, length-over, length-write}
 use Rattle.memory.proofs.Bytes.{length-bytesOf}
+use Rattle.anomaly.specs.declared.Refusal.{Refusal}
+use Rattle.anomaly.specs.Table.{numberOfRefusal}
 use Rattle.anomaly.proofs.Numbers.{both}
 use Rattle.string.specs.declared.table.StrTable.{StrTable}
 use Rattle.string.specs.declared.table.Probe.{Probe}
+use Rattle.string.proofs.table.Probe as probes
 use Rattle.string.specs.Hash.{hashOf, smallHashOf}
 use Rattle.string.specs.Payload.{payloadOf, payloadSize, holds, smallName}
 use Rattle.string.specs.Table.{lookup, placed}
@@ -38,12 +43,15 @@ use Rattle.gc.specs.Lent as Heap
 use Rattle.gc.proofs.Growth.{grow-enough}
 use Rattle.gc.proofs.Soundness.{sound}
 use Rattle.vm.specs.declared.State.{State}
-use Rattle.program.specs.Image.{failing}
+use Rattle.program.specs.Image.{Test, test, failing}
+use Rattle.program.proofs.Tests.{failing-cons, failing-here, failing-later}
 use Rattle.vm.specs.Core.{Land, used, lacking, short, setLand, setPages, setBytes}
 use Rattle.vm.specs.Names.{Given, filled, entered, fresh, known, interned}
-use Rattle.vm.specs.Machine.{Lent, Machine, sizes, landOf, view, Called, value, refused, host, intern, internSmall, withPages, withNames, hosted, hostLeaves, granted, hostCall, act, heapOk, slotsOk, pagesBelong, namesBelong, smallOk, tests, tried, perform}
-use Rattle.vm.specs.Told.{lentOf, machineOf}
-use Rattle.vm.specs.Interned.{written, nameBlock, Belong}
+use Rattle.vm.specs.Machine.{Lent, Machine, sizes, landOf, view, Called, value, refused, host, intern, internSmall, withPages, withNames, hosted, hostLeaves, granted, hostCall, act, heapOk, slotsOk, pagesBelong, namesBelong, smallOk, nameTests, tests, perform}
+use Rattle.vm.specs.declared.names.Tested.{Tested}
+use Rattle.vm.specs.Told.{lentOf, machineOf, holding}
+use Rattle.vm.specs.Interned.{written, nameBlock, Belong, testedOf}
+use Rattle.vm.proofs.Performed.{refuses, refused-is, acted-is}
 use Rattle.vm.proofs.Fits.{take-fits}
 use Rattle.vm.proofs.Buffers.{heap-low}
 use Rattle.vm.proofs.Kept.{allocated-base}
@@ -92,42 +100,49 @@ slot-most n e = at 64 _ (omega arith) (at 128 _ (omega arith) (at 256 _ (omega a
         go true q e = omega (arith, eqb-true n m q)
         go false q e = f e
 
-module _ (s : State) (heap slots spare : List ℕ) where
+module _ (g : Gc) (t : StrTable) (heap slots spare : List ℕ) where
   abbrev sizes-ok : Bool
-  sizes-ok = heapOk (s .gc .base) (length heap) && slotsOk (length slots) (length spare)
+  sizes-ok = heapOk (g .base) (length heap) && slotsOk (length slots) (length spare)
 
   abbrev names-ok : Bool
-  names-ok = Heap.soundOf (s .gc) (length heap) && Table.soundOf (s .gc .base) (s .gc .pushed) (s .strings) slots
+  names-ok = Heap.soundOf g (length heap) && Table.soundOf (g .base) (g .pushed) t slots
 
-pub record Passed (s : State) (heap slots spare : List ℕ) : Type 0 where
-  pub sizes : sizes-ok s heap slots spare ≡ true
-  pub names : names-ok s heap slots spare ≡ true
+module _ (rest : State) (frames : List ℕ) (g : Gc) (t : StrTable) (heap slots spare : List ℕ) where
+  abbrev own : List Test
+  own = nameTests (holding rest g t) (lentOf frames heap slots spare)
 
-module _ (s : State) (heap slots spare : List ℕ) {a b : Bool} (e : a ≡ heapOk (s .gc .base) (length heap)) (f : b ≡ slotsOk (length slots) (length spare)) where
-  pub wrong-sizes : not (a && b) ≡ true → sizes-ok s heap slots spare ≡ false
-  wrong-sizes h = rw (← e, ← f) (not-true _ h)
+  module _ {a b : Bool} (e : a ≡ heapOk (g .base) (length heap)) (f : b ≡ slotsOk (length slots) (length spare)) where
+    pub tested-10 : not (a && b) ≡ true → some 10 ≡ failing own
+    unfolding failing
+    tested-10 h = rw (← e, ← f, not-true (a && b) h, failing) refl
 
-  pub right-sizes : not (a && b) ≡ false → sizes-ok s heap slots spare ≡ true
-  right-sizes h = rw (← e, ← f) (not-false _ h)
+    module _ (h : not (a && b) ≡ false) {c d : Bool} (i : c ≡ Heap.soundOf g (length heap)) (j : d ≡ Table.soundOf (g .base) (g .pushed) t slots) where
+      pub tested-9 : not (c && d) ≡ true → some 9 ≡ failing own
+      unfolding failing namesBelong pagesBelong
+      tested-9 k = rw (← e, ← f, not-false (a && b) h, ← i, ← j, not-true (c && d) k, failing) refl
 
-  pub passed : not (a && b) ≡ false → {c : Bool} → c ≡ names-ok s heap slots spare → not c ≡ false → Passed s heap slots spare
-  passed h g k = record { sizes = right-sizes h; names = sym g ∙ not-false _ k }
+      pub tested-fine : not (c && d) ≡ false → none ≡ failing own
+      unfolding failing namesBelong pagesBelong
+      tested-fine k = rw (← e, ← f, not-false (a && b) h, ← i, ← j, not-false (c && d) k, failing) refl
 
-pub belong : (s : State) (heap slots spare : List ℕ) → Passed s heap slots spare → Belong s heap slots spare
-unfolding slotsOk Table.soundOf Table.slotsOk Table.countOk
-belong s heap slots spare p =
-    let sizes = both (heapOk (s .gc .base) (length heap)) _ (p .sizes) in
+-- the tests look at no other part of a state, so any will do
+pub belong : (g : Gc) (t : StrTable) (heap slots spare : List ℕ) → ((rest : State) (frames : List ℕ) → none ≡ failing (own rest frames g t heap slots spare)) → Belong g t heap slots spare
+unfolding namesBelong pagesBelong slotsOk Table.soundOf Table.slotsOk Table.countOk
+belong g t heap slots spare p =
+    let first = failing-cons (test (sizes-ok g t heap slots spare) 10) _ (sym (p (record { regs = []; pc = 0; depth = 0; gc = g; strings = t }) [])) in
+    let second = failing-cons (test (names-ok g t heap slots spare) 9) [] (first .1) in
+    let sizes = both (heapOk (g .base) (length heap)) _ (first .0) in
     let lent = both (Table.slotCount (length slots)) _ (sizes .1) in
-    let own = both (Heap.soundOf (s .gc) (length heap)) _ (p .names) in
-    let table = both (Table.activeOk (s .strings .active) (length slots)) _ (own .1) in
-    let count = both (Table.headersIn (s .gc .base) (s .gc .pushed) (take (s .strings .active) slots)) _ (table .1) in
-    let half = both (eqb (Table.filledIn (take (s .strings .active) slots)) (s .strings .len)) _ (count .1) in
-    let active = active-within (s .strings .active) (length slots) (table .0) in
-    let l = length-take-le (s .strings .active) slots active in
+    let own = both (Heap.soundOf g (length heap)) _ (second .0) in
+    let table = both (Table.activeOk (t .active) (length slots)) _ (own .1) in
+    let count = both (Table.headersIn (g .base) (g .pushed) (take (t .active) slots)) _ (table .1) in
+    let half = both (eqb (Table.filledIn (take (t .active) slots)) (t .len)) _ (count .1) in
+    let active = active-within (t .active) (length slots) (table .0) in
+    let l = length-take-le (t .active) slots active in
     record {
-      pages = sound (s .gc) heap (heap-low (s .gc .base) (length heap) (sizes .0)) (own .0);
+      pages = sound g heap (heap-low (g .base) (length heap) (sizes .0)) (own .0);
       active = active;
-      few = omega (arith, leb-true (s .strings .len * 2) (length (take (s .strings .active) slots)) (half .1));
+      few = omega (arith, leb-true (t .len * 2) (length (take (t .active) slots)) (half .1));
       most = slot-most (length slots) (lent .0);
       as-long = eqb-true (length spare) (length slots) (lent .1);
     }
@@ -225,14 +240,38 @@ module _ (g : Gc) (name : List ℕ) (hash : ℕ) (heap x : List ℕ) (r : Alloc)
 
 -- ---- a new name
 
-abbrev refuses : ℕ → State → Lent → Called
-refuses e s l = record { answer = refused e; machine = machineOf s l }
+-- its block was given
+module _ (g : Gc) (name : List ℕ) (hash : ℕ) (heap x : List ℕ) (r : Alloc) (e : outcome r x ≡ grantedIn (nameBlock name hash (pagesOf g heap)) heap) (a : ℕ) (to : Gc) (i : r ≡ At a to) where
+  abbrev given : Block
+  given = nameBlock name hash (pagesOf g heap)
+
+  pub name-given : Given-at (fits (given .pages) (length heap)) given heap x a to
+  name-given = at-said (fits (given .pages) (length heap)) given heap x r a to i e
+
+  given-in : length (given .pages .bytes) ≤ length heap
+  unfolding fits
+  given-in = leb-true _ _ (name-given .fitting)
+
+  pub pushed-in : to .pushed ≤ length x
+  unfolding numbersOf
+  pushed-in = rw (name-given .numbers, name-given .bytes, length-over) given-in
+
+  pub name-bytes : take (to .pushed) x ≡ given .pages .bytes
+  unfolding numbersOf
+  name-bytes = rw (name-given .numbers, name-given .bytes) (take-over (given .pages .bytes) heap given-in)
+
+-- probing ended at a vacant slot, 1, or at none, 2
+pub new-name : (name : List ℕ) (l : Land) (p : Probe) → OneOf (1 ∷ 2 ∷ []) (tagOf probes.the-type p) → known name l p ≡ fresh name l
+unfolding known
+new-name name l (Probe.Found v) is = absurd (miss (1 ∷ 2 ∷ []) 0 tt is)
+new-name name l (Probe.Vacant i) is = refl
+new-name name l Probe.Full is = refl
 
 module _ (s : State) (frames heap slots spare name : List ℕ) where
   abbrev machine : Machine
   machine = machineOf s (lentOf frames heap slots spare)
 
-  module _ (b : Belong s heap slots spare) where
+  module _ (b : Belong (s .gc) (s .strings) heap slots spare) where
     long : length (take (s .strings .active) slots) ≡ s .strings .active
     long = length-take-le (s .strings .active) slots (b .active)
 
@@ -257,41 +296,28 @@ module _ (s : State) (frames heap slots spare name : List ℕ) where
       unfolding short used sizes view setLand
       fresh-short = rw (fresh-is, slots-long, le-leb _ _ (take-fits (s .depth) frames)) refl
 
-      pub fresh-18 : length slots < room → refuses 18 s (lentOf frames heap slots spare) ≡ hostCall (intern name) machine (fresh name (landOf machine))
+      pub fresh-18 : length slots < room → refuses 18 machine ≡ hostCall (intern name) machine (fresh name (landOf machine))
       unfolding hostCall granted lacking
       fresh-18 h = rw (fresh-short, lt-leb room (length slots) h) refl
 
       module _ (h : room ≤ length slots) (x : List ℕ) (r : Alloc) (e : outcome r x ≡ grantedIn made heap) where
-        pub fresh-2 : r ≡ Refused → refuses 2 s (lentOf frames x slots spare) ≡ hostCall (intern name) machine (fresh name (landOf machine))
+        pub fresh-2 : r ≡ Refused → refuses 2 (machineOf s (lentOf frames x slots spare)) ≡ hostCall (intern name) machine (fresh name (landOf machine))
         unfolding hostCall granted lacking fits
         fresh-2 i =
             let no = refused-said (fits (made .pages) (length heap)) made heap x r i e in
             rw (fresh-short, le-leb room (length slots) h, no .0, no .1) refl
 
         module _ (a : ℕ) (to : Gc) (i : r ≡ At a to) where
-          gives : Given-at (fits (made .pages) (length heap)) made heap x a to
-          gives = at-said (fits (made .pages) (length heap)) made heap x r a to i e
-
-          made-in : length (made .pages .bytes) ≤ length heap
-          unfolding fits
-          made-in = leb-true _ _ (gives .fitting)
-
-          pub pushed-in : to .pushed ≤ length x
-          unfolding numbersOf
-          pushed-in = rw (gives .numbers, gives .bytes, length-over) made-in
-
-          bytes-are : take (to .pushed) x ≡ made .pages .bytes
-          unfolding numbersOf
-          bytes-are = rw (gives .numbers, gives .bytes) (take-over (made .pages .bytes) heap made-in)
-
           pub fresh-done : (t : StrTable) (y z : List ℕ) → inserted t y z ≡ insertOf (to .base) (take (to .pushed) x) hash a (s .strings) slots spare
-              → record { answer = value a; machine = machineOf (record { regs = s .regs; pc = s .pc; depth = s .depth; gc = to; strings = t }) (lentOf frames x y z) } ≡ hostCall (intern name) machine (fresh name (landOf machine))
+              → record { answer = value a; machine = machineOf (holding s to t) (lentOf frames x y z) } ≡ hostCall (intern name) machine (fresh name (landOf machine))
           unfolding hostCall granted lacking fits hostLeaves withNames withPages insertOf numbersOf
           fresh-done t y z p =
+              let gives = name-given (s .gc) name hash heap x r e a to i in
+              let bytes = name-bytes (s .gc) name hash heap x r e a to i in
               let table = ap (λ (o : Inserted). o .table) p in
               let new = ap (λ (o : Inserted). o .slots) p in
               let old = ap (λ (o : Inserted). o .spare) p in
-              rw (fresh-short, le-leb room (length slots) h, gives .fitting, fresh-is, slots-long, table, new, old, bytes-are, gives .numbers, gives .bytes, gives .address) refl
+              rw (fresh-short, le-leb room (length slots) h, gives .fitting, fresh-is, slots-long, table, new, old, bytes, gives .numbers, gives .bytes, gives .address) refl
 
     -- ---- a name that is there
 
@@ -318,18 +344,14 @@ module _ (s : State) (frames heap slots spare name : List ℕ) where
   unfolding interned landOf pagesOf
   found-is hash h p e = rw (e, h) refl
 
-  pub intern-10 : sizes-ok s heap slots spare ≡ false → refuses 10 s (lentOf frames heap slots spare) ≡ perform (host (intern name)) machine
-  unfolding perform tests failing tried
-  intern-10 e = rw (e, failing, tried) refl
+  pub intern-refused : (why : Refusal) → testedOf (Tested.Failed why) ≡ failing (nameTests s (machine .lent)) → refuses (numberOfRefusal why) machine ≡ perform (host (intern name)) machine
+  unfolding tests testedOf
+  intern-refused why f = refused-is (host (intern name)) machine _ (sym f)
 
-  pub intern-9 : sizes-ok s heap slots spare ≡ true → names-ok s heap slots spare ≡ false → refuses 9 s (lentOf frames heap slots spare) ≡ perform (host (intern name)) machine
-  unfolding perform tests failing tried namesBelong pagesBelong
-  intern-9 e f = rw (e, f, failing, tried) refl
-
-  pub intern-told : Passed s heap slots spare → (hash : ℕ) → hash ≡ hashOf name → (p : Probe) (x : Called) → x ≡ hostCall (intern name) machine (known name (landOf machine) p) → p ≡ probed hash
-      → x ≡ perform (host (intern name)) machine
-  unfolding perform tests failing tried namesBelong pagesBelong act hosted
-  intern-told g hash h p x e q = e ∙ rw (g .sizes, g .names, failing, tried, found-is hash h p q) refl
+  pub intern-told : none ≡ failing (nameTests s (machine .lent)) → (hash : ℕ) → hash ≡ hashOf name → (p : Probe) (x : Called) → x ≡ hostCall (intern name) machine (known name (landOf machine) p)
+      → p ≡ probed hash → x ≡ perform (host (intern name)) machine
+  unfolding tests act hosted
+  intern-told f hash h p x e q = e ∙ ap (hostCall (intern name) machine) (found-is hash h p q) ∙ acted-is (host (intern name)) machine (sym f)
 
 -- ---- a small name, unpacked
 
@@ -360,22 +382,25 @@ module _ (s : State) (frames heap slots spare : List ℕ) (n w : ℕ) where
   as-name none g = refl
   as-name (some e) g = refl
 
-  pub small-10 : sizes-ok s heap slots spare ≡ false → refuses 10 s (lentOf frames heap slots spare) ≡ perform (host (internSmall n w)) small-machine
-  unfolding perform tests failing tried
-  small-10 e = rw (e, failing, tried) refl
+  module _ (why : Refusal) where
+    pub small-refused : testedOf (Tested.Failed why) ≡ failing (nameTests s (small-machine .lent)) → refuses (numberOfRefusal why) small-machine ≡ perform (host (internSmall n w)) small-machine
+    unfolding tests testedOf
+    small-refused f = refused-is (host (internSmall n w)) small-machine _ (failing-here (nameTests s (small-machine .lent)) _ _ (sym f))
 
-  pub small-9 : sizes-ok s heap slots spare ≡ true → names-ok s heap slots spare ≡ false → refuses 9 s (lentOf frames heap slots spare) ≡ perform (host (internSmall n w)) small-machine
-  unfolding perform tests failing tried namesBelong pagesBelong
-  small-9 e f = rw (e, f, failing, tried) refl
+  module _ (f : none ≡ failing (nameTests s (small-machine .lent))) where
+    small-tests : failing (tests (host (internSmall n w)) s (small-machine .lent)) ≡ failing (test (smallOk n w) 17 ∷ [])
+    unfolding tests
+    small-tests = failing-later (nameTests s (small-machine .lent)) _ (sym f)
 
-  pub small-17 : Passed s heap slots spare → smallOk n w ≡ false → refuses 17 s (lentOf frames heap slots spare) ≡ perform (host (internSmall n w)) small-machine
-  unfolding perform tests failing tried namesBelong pagesBelong
-  small-17 g k = rw (g .sizes, g .names, k, failing, tried) refl
+    pub small-17 : smallOk n w ≡ false → refuses 17 small-machine ≡ perform (host (internSmall n w)) small-machine
+    unfolding failing
+    small-17 k = refused-is (host (internSmall n w)) small-machine 17 (small-tests ∙ rw k refl)
 
-  pub small-told : Passed s heap slots spare → smallOk n w ≡ true → (hash : ℕ) → hash ≡ smallHashOf n w → (name : List ℕ) → name ≡ smallName n w
-      → (p : Probe) (x : Called) → x ≡ hostCall (intern name) small-machine (known name (landOf small-machine) p) → p ≡ probed s frames heap slots spare (smallName n w) hash
-      → x ≡ perform (host (internSmall n w)) small-machine
-  unfolding perform tests failing tried namesBelong pagesBelong act hosted hostCall
-  small-told g k hash h name i p x e q =
-      let fine = small-says n w k in
-      e ∙ rw (g .sizes, g .names, k, failing, tried, i, found-is s frames heap slots spare (smallName n w) hash (h ∙ small-hash-is n w (fine .0) (fine .1)) p q) (as-name _ _)
+    pub small-told : smallOk n w ≡ true → (hash : ℕ) → hash ≡ smallHashOf n w → (name : List ℕ) → name ≡ smallName n w
+        → (p : Probe) (x : Called) → x ≡ hostCall (intern name) small-machine (known name (landOf small-machine) p) → p ≡ probed s frames heap slots spare (smallName n w) hash
+        → x ≡ perform (host (internSmall n w)) small-machine
+    unfolding act hosted hostCall failing
+    small-told k hash h name i p x e q =
+        let fine = small-says n w k in
+        e ∙ rw (i, found-is s frames heap slots spare (smallName n w) hash (h ∙ small-hash-is n w (fine .0) (fine .1)) p q) (as-name _ _)
+        ∙ acted-is (host (internSmall n w)) small-machine (small-tests ∙ rw k refl)

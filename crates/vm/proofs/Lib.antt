@@ -6,6 +6,7 @@ pub mod Runs
 pub mod Holds
 pub mod Refusals
 pub mod Calls
+pub mod Performed
 pub mod Buffers
 pub mod Starting
 pub mod Inside

@@ -17,7 +17,8 @@ use Rattle.vm.specs.declared.State.{State}
 use Rattle.program.specs.Image.{Image, test, imageOk, imageTests, failing, verdict}
 use Rattle.vm.specs.Machine.{Lent, Machine, Called, done, refused, traced, withPages, withFrames, unset, framesOk, heapOk, slotsOk, firstLand, blank, begin, starts, start}
 use Rattle.vm.specs.Told.{lentOf, machineOf, startedOn}
-use Rattle.vm.proofs.Refusals.{failing-cons, failing-numbered, image-alone}
+use Rattle.program.proofs.Tests.{failing-cons}
+use Rattle.vm.proofs.Refusals.{failing-numbered, image-alone}
 use Rattle.vm.proofs.Buffers.{frames-room, heap-room, heap-low}
 use Rattle.vm.proofs.Replies.{over-first}
 use Rattle.vm.proofs.Ends.{refusal-numbered}

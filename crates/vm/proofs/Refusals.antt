@@ -119,16 +119,6 @@ tests-are n (host (option o)) c m h = rw (base-legal n c m h, pages-same n c m h
 tests-are n (host (intern s)) c m h = rw (base-legal n c m h, h .slots-ok, names-same n c m h) refl
 tests-are n (host (internSmall z w)) c m h = rw (base-legal n c m h, h .slots-ok, names-same n c m h) refl
 
--- ---- tests that all pass
-
-pub failing-cons : (t : Test) (ts : List Test) → failing (t ∷ ts) ≡ none → (t .passes ≡ true) × (failing ts ≡ none)
-unfolding failing
-failing-cons t ts h = by (t .passes) refl (unfold failing in h)
-  where
-    by : (b : Bool) → t .passes ≡ b → _≡_ {A = Option ℕ} (elim b [ true ↦ failing ts | false ↦ some (t .number) ]) none → (t .passes ≡ true) × (failing ts ≡ none)
-    by true p q = (p, q)
-    by false p q = (cc, cc)
-
 -- ---- a test that fails refuses with a number from 9 to 17, and none of these is one of running out
 
 pub Numbered : List Test → Type 0

@@ -18,7 +18,7 @@ use Rattle.vm.specs.Machine.{Lent, Machine, sizes, landOf, view, Call, r
 use Rattle.vm.proofs.Fits.{none-of}
 use Rattle.vm.proofs.Kept.{boxed-kept}
 use Rattle.vm.proofs.Holds.{Holds, holds-pages, holds-frames}
-use Rattle.vm.proofs.Refusals.{failing-cons}
+use Rattle.program.proofs.Tests.{failing-cons}
 use Rattle.vm.proofs.Buffers.{frames-room, heap-room}
 
 starts-none : (o : Option ℕ) (base : ℕ) (l : Lent) (m : Machine) → starts o base l ≡ begun m → (o ≡ none) × (begin base l ≡ m)

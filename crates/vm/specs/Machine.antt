@@ -219,6 +219,10 @@ namesBelong s l = pagesBelong s l && Table.soundOf (s .gc .base) (s .gc .pushed)
 unfoldable pub smallOk : ℕ → ℕ → Bool
 smallOk n w = leb n 8 && ltb w (256 ^ n)
 
+-- both internings
+abbrev pub nameTests : State → Lent → List Test
+nameTests s l = test (heapOk (s .gc .base) (length (l .heap)) && slotsOk (length (l .slots)) (length (l .spare))) 10 ∷ test (namesBelong s l) 9 ∷ []
+
 unfoldable pub tests : Call → State → Lent → List Test
 tests (run im b) s l =
     imageTests (framesOk (length (l .frames)) && heapOk (s .gc .base) (length (l .heap))) im ++ (test (framesBelong (length (im .code)) s l && pagesBelong s l) 9 ∷ [])
@@ -227,8 +231,8 @@ tests (light (putPc p)) s l = []
 tests (light (putReg r v)) s l = test (ltb r 32) 13 ∷ []
 tests (host (allocate kind align n)) s l = test (heapOk (s .gc .base) (length (l .heap))) 10 ∷ test (ltb kind 4 && isAlignment align) 13 ∷ test (pagesBelong s l) 9 ∷ []
 tests (host (option o)) s l = test (heapOk (s .gc .base) (length (l .heap))) 10 ∷ test (pagesBelong s l) 9 ∷ []
-tests (host (intern n)) s l = test (heapOk (s .gc .base) (length (l .heap)) && slotsOk (length (l .slots)) (length (l .spare))) 10 ∷ test (namesBelong s l) 9 ∷ []
-tests (host (internSmall n w)) s l = test (heapOk (s .gc .base) (length (l .heap)) && slotsOk (length (l .slots)) (length (l .spare))) 10 ∷ test (namesBelong s l) 9 ∷ test (smallOk n w) 17 ∷ []
+tests (host (intern n)) s l = nameTests s l
+tests (host (internSmall n w)) s l = nameTests s l ++ (test (smallOk n w) 17 ∷ [])
 
 -- a refused call leaves state and buffers unchanged
 unfoldable pub tried : Option ℕ → Call → Machine → Called

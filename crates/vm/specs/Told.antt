@@ -4,6 +4,7 @@ use mathlib.Core.Option.{Option, none, some}
 use mathlib.Core.List.{List, []}
 use Rattle.anomaly.specs.declared.Refusal.{Refusal}
 use Rattle.anomaly.specs.Table.{numberOfRefusal}
+use Rattle.string.specs.declared.table.StrTable.{StrTable}
 use Rattle.gc.specs.declared.Alloc.{Alloc}
 use Rattle.gc.specs.declared.Gc.{Gc}
 use Rattle.gc.specs.Pages.{Block}
@@ -31,12 +32,13 @@ saidOf (Reply.Refused r) = refused (numberOfRefusal r)
 abbrev pub refusedBy : Refusal → State → Called
 refusedBy why s = record { reply = Reply.Refused why; state = s }
 
-abbrev pub withGc : Gc → State → State
-withGc g s = record { regs = s .regs; pc = s .pc; depth = s .depth; gc = g; strings = s .strings }
+-- a state with the numbers of another heap and table
+abbrev pub holding : State → Gc → StrTable → State
+holding s g t = record { regs = s .regs; pc = s .pc; depth = s .depth; gc = g; strings = t }
 
 -- a block's address, and the state with the heap's numbers; or 2
 abbrev pub allocatedIn : State → Alloc → Called
-allocatedIn s (Alloc.At address g) = record { reply = Reply.Value address; state = withGc g s }
+allocatedIn s (Alloc.At address g) = record { reply = Reply.Value address; state = holding s g (s .strings) }
 allocatedIn s Alloc.Refused = refusedBy Refusal.Memory s
 
 -- a reply with the state, and the buffers after the call

@@ -1,16 +1,15 @@
 // Interning: document 01, 'Interning: 9, 17, the value if found, 18, 2', after 10.
 ghost use mathlib.Core.Path.{_≡_};
-ghost use mathlib.Core.Bool.{_&&_};
 ghost use mathlib.Core.List.{List};
 ghost use Prim.Native.Nat.{ℕ};
 ghost use Rattle.string.specs.Hash.{hashOf};
-ghost use Rattle.string.specs.Sound as Table;
 ghost use Rattle.gc.specs.Lent.{pagesOf, outcome, grantedIn, Sound};
-ghost use Rattle.gc.specs.Lent as Heap;
+ghost use Rattle.program.specs.Image.{failing};
+ghost use Rattle.vm.specs.declared.State.{State};
 ghost use Rattle.vm.specs.Names.{fresh, known};
-ghost use Rattle.vm.specs.Machine.{landOf, intern, internSmall, host, hostCall, smallOk, perform};
-ghost use Rattle.vm.specs.Told.{lentOf, machineOf, told};
-ghost use Rattle.vm.specs.Interned.{nameBlock, Belong};
+ghost use Rattle.vm.specs.Machine.{landOf, intern, internSmall, host, hostCall, smallOk, nameTests, perform};
+ghost use Rattle.vm.specs.Told.{lentOf, machineOf, holding, told};
+ghost use Rattle.vm.specs.Interned.{nameBlock, Belong, testedOf, internedIn};
 use crate::Called;
 use crate::Reply;
 use crate::State;
@@ -24,6 +23,20 @@ use string::fxhash;
 use string::payload;
 use string::table;
 use string::table::Probe;
+use string::table::StrTable;
+
+// What comes of the tests of an interning.
+enum Tested {
+    Passed,
+    Failed(Refusal),
+}
+
+// A reply to an interning, and the numbers that it leaves of the heap and the table: it needs nothing else of a state.
+pub struct Interned {
+    pub reply: Reply,
+    pub gc: Gc,
+    pub strings: StrTable,
+}
 
 // A block with the header and the bytes of `s`, whose hash is `hash`.
 fn store(gc: Gc, s: &[u8], hash: u32, heap: &mut [u8]) -> Alloc
@@ -50,88 +63,160 @@ fn small_ok(len: usize, word: u64) -> bool
     word >> (len * 8) == 0
 }
 
+// 10, then 9.
+fn check(gc: Gc, strings: StrTable, heap: &[u8], slots: &[u64], spare: &[u64]) -> Tested
+    ensures { λ r. ⌜ ((rest : State) (frames : List ℕ) → testedOf r ≡ failing (nameTests (holding rest gc strings) (lentOf frames (now (heap .entry)) (now (slots .entry)) (now (spare .entry))))) ⌝ }
+{
+    if !(lent::heap_ok(gc.base, heap.len()) & lent::slots_ok(slots.len(), spare.len())) {
+        return Tested::Failed(Refusal::Size);
+    }
+    let names = strings.sound(gc.base, gc.pushed, slots);
+    if !(gc.sound(heap.len()) & names) {
+        return Tested::Failed(Refusal::State);
+    }
+    Tested::Passed
+}
+
+fn refused(gc: Gc, strings: StrTable, why: Refusal) -> Interned
+    ensures { λ r. ⌜ r ≡ record { reply = Reply.Refused why; gc = gc; strings = strings } ⌝ }
+{
+    Interned {
+        reply: Reply::Refused(why),
+        gc,
+        strings,
+    }
+}
+
+// A name that is not there yet. The slots are tested first: 18 before 2.
+fn fresh(
+    gc: Gc,
+    strings: StrTable,
+    s: &[u8],
+    hash: u32,
+    heap: &mut [u8],
+    slots: &mut [u64],
+    spare: &mut [u64],
+) -> Interned
+    requires { ⌜ Belong gc strings (now heap) (now slots) (now spare) × (hash ≡ hashOf (now s)) ⌝ }
+    ensures { λ r. ⌜ ((rest : State) (frames : List ℕ) → told (internedIn rest r) (lentOf frames (now (heap .exit)) (now (slots .exit)) (now (spare .exit))) ≡ hostCall (intern (now (s .entry))) (machineOf (holding rest gc strings) (lentOf frames (now (heap .entry)) (now (slots .entry)) (now (spare .entry)))) (fresh (now (s .entry)) (landOf (machineOf (holding rest gc strings) (lentOf frames (now (heap .entry)) (now (slots .entry)) (now (spare .entry))))))) ⌝ }
+{
+    if slots.len() < strings.room() {
+        return refused(gc, strings, Refusal::TableFull);
+    }
+    let Alloc::At(address, to) = store(gc, s, hash, heap) else {
+        return refused(gc, strings, Refusal::Memory);
+    };
+    let pushed = to.pushed;
+    let table = strings.insert(to.base, &heap[..pushed], hash, address, slots, spare);
+    Interned {
+        reply: Reply::Value(address),
+        gc: to,
+        strings: table,
+    }
+}
+
+// The value if it was found, or else the new name's.
+fn known(
+    found: Probe,
+    gc: Gc,
+    strings: StrTable,
+    s: &[u8],
+    hash: u32,
+    heap: &mut [u8],
+    slots: &mut [u64],
+    spare: &mut [u64],
+) -> Interned
+    requires { ⌜ Belong gc strings (now heap) (now slots) (now spare) × (hash ≡ hashOf (now s)) ⌝ }
+    ensures { λ r. ⌜ ((rest : State) (frames : List ℕ) → told (internedIn rest r) (lentOf frames (now (heap .exit)) (now (slots .exit)) (now (spare .exit))) ≡ hostCall (intern (now (s .entry))) (machineOf (holding rest gc strings) (lentOf frames (now (heap .entry)) (now (slots .entry)) (now (spare .entry)))) (known (now (s .entry)) (landOf (machineOf (holding rest gc strings) (lentOf frames (now (heap .entry)) (now (slots .entry)) (now (spare .entry))))) found)) ⌝ }
+{
+    match found {
+        Probe::Found(v) => Interned {
+            reply: Reply::Value(v),
+            gc,
+            strings,
+        },
+        Probe::Vacant(_) | Probe::Full => fresh(gc, strings, s, hash, heap, slots, spare),
+    }
+}
+
+pub fn intern(
+    gc: Gc,
+    strings: StrTable,
+    s: &[u8],
+    heap: &mut [u8],
+    slots: &mut [u64],
+    spare: &mut [u64],
+) -> Interned
+    ensures { λ r. ⌜ ((rest : State) (frames : List ℕ) → told (internedIn rest r) (lentOf frames (now (heap .exit)) (now (slots .exit)) (now (spare .exit))) ≡ perform (host (intern (now (s .entry)))) (machineOf (holding rest gc strings) (lentOf frames (now (heap .entry)) (now (slots .entry)) (now (spare .entry))))) ⌝ }
+{
+    match check(gc, strings, heap, slots, spare) {
+        Tested::Failed(why) => refused(gc, strings, why),
+        Tested::Passed => {
+            let hash = fxhash::hash(s);
+            let active = strings.active;
+            let pushed = gc.pushed;
+            let found = table::get(gc.base, &heap[..pushed], &slots[..active], s, hash);
+            known(found, gc, strings, s, hash, heap, slots, spare)
+        }
+    }
+}
+
+// `intern` of the `len` bytes that `word` packs.
+pub fn intern_small(
+    gc: Gc,
+    strings: StrTable,
+    len: usize,
+    word: u64,
+    heap: &mut [u8],
+    slots: &mut [u64],
+    spare: &mut [u64],
+) -> Interned
+    ensures { λ r. ⌜ ((rest : State) (frames : List ℕ) → told (internedIn rest r) (lentOf frames (now (heap .exit)) (now (slots .exit)) (now (spare .exit))) ≡ perform (host (internSmall len word)) (machineOf (holding rest gc strings) (lentOf frames (now (heap .entry)) (now (slots .entry)) (now (spare .entry))))) ⌝ }
+{
+    match check(gc, strings, heap, slots, spare) {
+        Tested::Failed(why) => refused(gc, strings, why),
+        Tested::Passed => {
+            if !small_ok(len, word) {
+                return refused(gc, strings, Refusal::SmallString);
+            }
+            let hash = fxhash::small_hash(len as u64, word);
+            let active = strings.active;
+            let pushed = gc.pushed;
+            let found = table::get_small(
+                gc.base,
+                &heap[..pushed],
+                &slots[..active],
+                len,
+                word,
+                hash,
+            );
+            let mut bytes: [u8; 8] = [0; 8];
+            memory::store8(&mut bytes, 0, word);
+            known(found, gc, strings, &bytes[..len], hash, heap, slots, spare)
+        }
+    }
+}
+
 impl State {
-    // Whether pages and names can belong to what is lent: refusal 9.
-    fn names_belong(self, heap: usize, slots: &[u64]) -> bool
-        ensures { λ r. ⌜ r ≡ (Heap.soundOf (self .gc) heap && Table.soundOf (self .gc .base) (self .gc .pushed) (self .strings) (now (slots .entry))) ⌝ }
+    fn interned(self, i: Interned) -> Called
+        ensures { λ r. ⌜ r ≡ internedIn self i ⌝ }
     {
-        let gc = self.gc;
-        let names = self.strings.sound(gc.base, gc.pushed, slots);
-        gc.sound(heap) & names
-    }
-
-    // A name that is not there yet. The slots are tested first: 18 before 2.
-    fn fresh(
-        self,
-        s: &[u8],
-        hash: u32,
-        heap: &mut [u8],
-        slots: &mut [u64],
-        spare: &mut [u64],
-    ) -> Called
-        requires { ⌜ Belong self (now heap) (now slots) (now spare) × (hash ≡ hashOf (now s)) ⌝ }
-        ensures { λ r. ⌜ ((frames : List ℕ) → told r (lentOf frames (now (heap .exit)) (now (slots .exit)) (now (spare .exit))) ≡ hostCall (intern (now (s .entry))) (machineOf self (lentOf frames (now (heap .entry)) (now (slots .entry)) (now (spare .entry)))) (fresh (now (s .entry)) (landOf (machineOf self (lentOf frames (now (heap .entry)) (now (slots .entry)) (now (spare .entry))))))) ⌝ }
-    {
-        let gc = self.gc;
-        let names = self.strings;
-        if slots.len() < names.room() {
-            return self.refused(Refusal::TableFull);
-        }
-        let Alloc::At(address, to) = store(gc, s, hash, heap) else {
-            return self.refused(Refusal::Memory);
-        };
-        let pushed = to.pushed;
-        let strings = names.insert(to.base, &heap[..pushed], hash, address, slots, spare);
+        let reply = i.reply;
+        let gc = i.gc;
+        let strings = i.strings;
         let mut state = self;
-        state.gc = to;
+        state.gc = gc;
         state.strings = strings;
-        Called {
-            reply: Reply::Value(address),
-            state,
-        }
-    }
-
-    // The value if it was found, or else the new name's.
-    fn known(
-        self,
-        found: Probe,
-        s: &[u8],
-        hash: u32,
-        heap: &mut [u8],
-        slots: &mut [u64],
-        spare: &mut [u64],
-    ) -> Called
-        requires { ⌜ Belong self (now heap) (now slots) (now spare) × (hash ≡ hashOf (now s)) ⌝ }
-        ensures { λ r. ⌜ ((frames : List ℕ) → told r (lentOf frames (now (heap .exit)) (now (slots .exit)) (now (spare .exit))) ≡ hostCall (intern (now (s .entry))) (machineOf self (lentOf frames (now (heap .entry)) (now (slots .entry)) (now (spare .entry)))) (known (now (s .entry)) (landOf (machineOf self (lentOf frames (now (heap .entry)) (now (slots .entry)) (now (spare .entry))))) found)) ⌝ }
-    {
-        match found {
-            Probe::Found(v) => Called {
-                reply: Reply::Value(v),
-                state: self,
-            },
-            Probe::Vacant(_) => self.fresh(s, hash, heap, slots, spare),
-            Probe::Full => self.fresh(s, hash, heap, slots, spare),
-        }
+        Called { reply, state }
     }
 
     pub fn intern(self, s: &[u8], heap: &mut [u8], slots: &mut [u64], spare: &mut [u64]) -> Called
         ensures { λ r. ⌜ ((frames : List ℕ) → told r (lentOf frames (now (heap .exit)) (now (slots .exit)) (now (spare .exit))) ≡ perform (host (intern (now (s .entry)))) (machineOf self (lentOf frames (now (heap .entry)) (now (slots .entry)) (now (spare .entry))))) ⌝ }
     {
-        let gc = self.gc;
-        if !(lent::heap_ok(gc.base, heap.len()) & lent::slots_ok(slots.len(), spare.len())) {
-            return self.refused(Refusal::Size);
-        }
-        if !self.names_belong(heap.len(), slots) {
-            return self.refused(Refusal::State);
-        }
-        let hash = fxhash::hash(s);
-        let active = self.strings.active;
-        let pushed = gc.pushed;
-        let found = table::get(gc.base, &heap[..pushed], &slots[..active], s, hash);
-        self.known(found, s, hash, heap, slots, spare)
+        let i = intern(self.gc, self.strings, s, heap, slots, spare);
+        self.interned(i)
     }
 
-    // `intern` of the `len` bytes that `word` packs.
     pub fn intern_small(
         self,
         len: usize,
@@ -142,22 +227,7 @@ impl State {
     ) -> Called
         ensures { λ r. ⌜ ((frames : List ℕ) → told r (lentOf frames (now (heap .exit)) (now (slots .exit)) (now (spare .exit))) ≡ perform (host (internSmall len word)) (machineOf self (lentOf frames (now (heap .entry)) (now (slots .entry)) (now (spare .entry))))) ⌝ }
     {
-        let gc = self.gc;
-        if !(lent::heap_ok(gc.base, heap.len()) & lent::slots_ok(slots.len(), spare.len())) {
-            return self.refused(Refusal::Size);
-        }
-        if !self.names_belong(heap.len(), slots) {
-            return self.refused(Refusal::State);
-        }
-        if !small_ok(len, word) {
-            return self.refused(Refusal::SmallString);
-        }
-        let hash = fxhash::small_hash(len as u64, word);
-        let active = self.strings.active;
-        let pushed = gc.pushed;
-        let found = table::get_small(gc.base, &heap[..pushed], &slots[..active], len, word, hash);
-        let mut bytes: [u8; 8] = [0; 8];
-        memory::store8(&mut bytes, 0, word);
-        self.known(found, &bytes[..len], hash, heap, slots, spare)
+        let i = intern_small(self.gc, self.strings, len, word, heap, slots, spare);
+        self.interned(i)
     }
 }
