@@ -5,11 +5,14 @@ use mathlib.Core.List.{List, [], _∷_, _++_, append-assoc}
 use native.Mathlib.Omega.{arith}
 use native.Mathlib.Nat.{zero-add}
 use lib.ListN.{length, take, drop, getD, length-append}
-use lib.Seq.{take-suc, take-at, getD-append-add}
+use lib.Seq.{take-suc, take-at, getD-append-add, length-take-le}
 use Rattle.memory.specs.Lists.{over, write}
 use Rattle.memory.proofs.Over.{length-over, over-take, over-is, tail-home, write-append}
+use Rattle.string.specs.declared.table.StrTable.{StrTable}
+use Rattle.gc.specs.declared.Gc.{Gc}
 use Rattle.vm.specs.declared.State.{State}
-use Rattle.girzhanok.specs.Words.{stateWords, numbers, packed, unpacked}
+use Rattle.vm.specs.Told.{holding}
+use Rattle.girzhanok.specs.Words.{stateWords, names, numbers, packed, unpacked}
 
 -- a list written over one as long
 pub over-whole : (new old : List ℕ) → length new ≡ length old → over new old ≡ new
@@ -36,6 +39,17 @@ pub packed-unpacked : (w : List ℕ) → stateWords ≤ length w → packed (unp
 unfolding packed unpacked
 packed-unpacked w room =
     sym (rw (take-suc w 39 0 (omega arith), take-suc w 38 0 (omega arith), take-suc w 37 0 (omega arith), take-suc w 36 0 (omega arith), take-suc w 35 0 (omega arith), take-suc w 34 0 (omega arith), take-suc w 33 0 (omega arith), take-suc w 32 0 (omega arith)) (simp append-assoc))
+
+-- other numbers of heap and table, written over their own words
+pub names-home : (w v : List ℕ) (g : Gc) (t : StrTable) → stateWords ≤ length w → v ≡ over (names g t) (take (length w - 34) (drop 34 w))
+    → take 34 w ++ (v ++ drop (length w - 34) (drop 34 w)) ≡ over (packed (holding (unpacked w) g t)) w
+unfolding packed unpacked write
+names-home w v g t room f =
+    let front : packed (holding (unpacked w) g t) ≡ take 34 w ++ names g t =
+    sym (rw (take-suc w 33 0 (omega arith), take-suc w 32 0 (omega arith)) (simp append-assoc)) in
+    let long : length (take 34 w) ≡ 34 = length-take-le 34 w (omega arith) in
+    rw (f, tail-home 34 (length w) (names g t) w refl (omega arith), front)
+    (ap (λ (n : ℕ). write n (names g t) w) (sym (zero-add _ ∙ long)) ∙ ap (write (0 + length (take 34 w)) (names g t)) (sym (over-take 34 w)) ∙ write-append 0 (take 34 w) (names g t) w)
 
 -- 'unchanged': the state that words hold, written over them
 pub pack-unpack : (w : List ℕ) → stateWords ≤ length w → over (packed (unpacked w)) w ≡ w

@@ -2,14 +2,20 @@
 use Prim.Native.Nat.{ℕ}
 use mathlib.Core.List.{List, [], _∷_, _++_}
 use lib.ListN.{take, getD}
+use Rattle.string.specs.declared.table.StrTable.{StrTable}
+use Rattle.gc.specs.declared.Gc.{Gc}
 use Rattle.vm.specs.declared.State.{State}
 
 abbrev pub stateWords : ℕ
 stateWords = 40
 
+-- words 34 to 39, of the heap and the table of names
+abbrev pub names : Gc → StrTable → List ℕ
+names g t = g .base ∷ g .pushed ∷ g .page ∷ g .len ∷ t .active ∷ t .len ∷ []
+
 -- words 32 to 39
 abbrev pub numbers : State → List ℕ
-numbers s = s .pc ∷ s .depth ∷ s .gc .base ∷ s .gc .pushed ∷ s .gc .page ∷ s .gc .len ∷ s .strings .active ∷ s .strings .len ∷ []
+numbers s = s .pc ∷ s .depth ∷ names (s .gc) (s .strings)
 
 -- words 0 to 31 are the registers
 unfoldable pub packed : State → List ℕ

@@ -3,16 +3,18 @@ ghost use mathlib.Core.Path.{_≡_};
 ghost use mathlib.Core.List.{[], _∷_};
 ghost use Prim.Native.Nat.{_≤_};
 ghost use lib.ListN.{length};
-ghost use Rattle.vm.specs.Told.{saidOf, optionOf};
+ghost use Rattle.vm.specs.Told.{saidOf, optionOf, holding};
 ghost use Rattle.vm.specs.Loop.{answerOf};
-ghost use Rattle.girzhanok.specs.Words.{stateWords};
+ghost use Rattle.girzhanok.specs.Words.{stateWords, unpacked};
 ghost use Rattle.girzhanok.specs.Served.{numberOf, answered, given, kept};
 use crate::words::pack;
+use crate::words::pack_names;
 use anomaly::End;
 use anomaly::Steps;
 use vm::Called;
 use vm::Opt;
 use vm::Reply;
+use vm::names::Interned;
 use vm::run::Ran;
 
 // The number of a reply. The words of the state are written unless it is a refusal.
@@ -31,18 +33,43 @@ pub fn answer(called: Called, words: &mut [u64]) -> u64
     }
 }
 
-// The same, and the value where there is one.
+// The value of a reply, where there is one.
+fn put_value(reply: Reply, value: &mut u64)
+    ensures { λ _. ⌜ now (value .exit) ∷ [] ≡ answered (saidOf reply) (now (value .entry) ∷ []) ⌝ }
+{
+    match reply {
+        Reply::Value(v) => {
+            *value = v;
+        }
+        Reply::Done | Reply::Refused(_) => {}
+    }
+}
+
+// `answer`, and the value where there is one.
 pub fn answer_value(called: Called, words: &mut [u64], value: &mut u64) -> u64
     requires { ⌜ stateWords ≤ length (now words) ⌝ }
     ensures { λ r. ⌜ (r ≡ numberOf (saidOf (called .reply))) × (now (words .exit) ≡ kept (saidOf (called .reply)) (called .state) (now (words .entry))) × (now (value .exit) ∷ [] ≡ answered (saidOf (called .reply)) (now (value .entry) ∷ [])) ⌝ }
 {
     let reply = called.reply;
+    put_value(reply, value);
+    answer(called, words)
+}
+
+// The same of an interning.
+pub fn answer_name(interned: Interned, words: &mut [u64], value: &mut u64) -> u64
+    requires { ⌜ stateWords ≤ length (now words) ⌝ }
+    ensures { λ r. ⌜ (r ≡ numberOf (saidOf (interned .reply))) × (now (words .exit) ≡ kept (saidOf (interned .reply)) (holding (unpacked (now (words .entry))) (interned .gc) (interned .strings)) (now (words .entry))) × (now (value .exit) ∷ [] ≡ answered (saidOf (interned .reply)) (now (value .entry) ∷ [])) ⌝ }
+{
+    let reply = interned.reply;
+    put_value(reply, value);
     match reply {
-        Reply::Value(v) => {
-            *value = v;
-            answer(called, words)
+        Reply::Value(_) | Reply::Done => {
+            let gc = interned.gc;
+            let strings = interned.strings;
+            pack_names(gc, strings, words);
+            End::HALT
         }
-        Reply::Done | Reply::Refused(_) => answer(called, words),
+        Reply::Refused(why) => why.number(),
     }
 }
 

@@ -14,13 +14,17 @@ use anomaly::End;
 use anomaly::Refusal;
 use anomaly::Steps;
 use answers::answer;
+use answers::answer_name;
 use answers::answer_run;
 use answers::answer_value;
 use answers::opt;
+use vm::names;
 use vm::start;
 use words::STATE_WORDS;
 use words::pack;
 use words::unpack;
+use words::unpack_heap;
+use words::unpack_table;
 
 #[no_mangle]
 pub extern "C" fn girzhanok_start(
@@ -188,8 +192,10 @@ pub extern "C" fn girzhanok_intern(
     if state.len() < STATE_WORDS {
         return Refusal::SIZE;
     }
-    let called = unpack(state).intern(name, heap, slots, spare);
-    answer_value(called, state, value)
+    let gc = unpack_heap(state);
+    let strings = unpack_table(state);
+    let interned = names::intern(gc, strings, name, heap, slots, spare);
+    answer_name(interned, state, value)
 }
 
 #[no_mangle]
@@ -207,6 +213,8 @@ pub extern "C" fn girzhanok_intern_small(
     if state.len() < STATE_WORDS {
         return Refusal::SIZE;
     }
-    let called = unpack(state).intern_small(len, word, heap, slots, spare);
-    answer_value(called, state, value)
+    let gc = unpack_heap(state);
+    let strings = unpack_table(state);
+    let interned = names::intern_small(gc, strings, len, word, heap, slots, spare);
+    answer_name(interned, state, value)
 }

@@ -21,20 +21,24 @@ copy-words-requires c κs =
 returns : tie.Need-returns
 unfolding unpacked
 returns c =
-    let depth = c in
-    let pc = depth .before .before in
-    let names = pc .before .before in
-    let active = names .before .before in
-    let len = active .before .before in
-    let page = len .before .before in
-    let pushed = page .before .before in
-    let regs = pushed .before .before .before .before in
-    let start = regs .before .before .before .before in
-    rw (regs .copy-words .ensures, pushed .size .ensures, page .size2 .ensures, len .size3 .ensures, active .size4 .ensures, names .size5 .ensures, pc .size6 .ensures, depth .size7 .ensures, over-whole _ _ (length-take-le 32 (start .args .words .now) (omega arith))) refl
+    let unpack-heap = c .before in
+    let size2 = unpack-heap .before in
+    let size = size2 .before .before in
+    let copy-words = size .before .before .before in
+    let start = copy-words .before .before .before .before in
+    rw (copy-words .copy-words .ensures, size .size .ensures, size2 .size2 .ensures, unpack-heap .unpack-heap .ensures, c .unpack-table .ensures, over-whole _ _ (length-take-le 32 (start .args .words .now) (omega arith))) refl
 
 pub unpack-spec : {M : Type 1} → statement M
 unpack-spec =
     tie.close
-    (tie.spec slice-aggregate-copy-words (λ c. search needs) copy-words-requires (λ c. search needs) (λ c. search needs) (λ c κs. search needs)
-    (λ c. search needs) (λ c κs. search needs) (λ c. search needs) (λ c κs. search needs) (λ c. search needs) (λ c κs. search needs)
-    (λ c. search needs) (λ c κs. search needs) (λ c. search needs) (λ c κs. search needs) (λ c. search needs) (λ c κs. search needs) returns)
+    (tie.spec
+    slice-aggregate-copy-words
+    (λ c. search needs)
+    copy-words-requires
+    (λ c. search needs)
+    (λ c κs. search needs)
+    (λ c. search needs)
+    (λ c κs. search needs)
+    (λ c κs. search needs)
+    (λ c κs. search needs)
+    returns)
