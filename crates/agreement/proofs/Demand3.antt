@@ -7,6 +7,8 @@ use mathlib.Core.List.{List, [], _∷_, _++_}
 use native.Mathlib.Omega.{arith}
 use lib.ListN.{length, set, length-set}
 use lib.Dec.{ltb, eqb}
+use Rattle.gc.specs.Lent.{numbersOf}
+use Rattle.vm.specs.declared.State.{State}
 use Rattle.vm.specs.Core.{Sizes, Core, Land, used, short, spent, _⊑_, setPc, setLand}
 use Rattle.program.specs.Image.{Image, failing}
 use Rattle.vm.specs.Machine.{Lent, Machine, sizes, view, Light, Host, Call, run, light, host, Answer, ended, value, done, refused, ranOut, Called, Acted, runs, hosted, granted, act, tried, perform, begun, start}
@@ -23,6 +25,24 @@ unfolding raised testsOn
 raised-tests (run im b) m c = refl
 raised-tests (light k) m c = refl
 raised-tests (host k) m c = refl
+
+-- the numbers of a machine's state are those of the core that it holds
+abbrev stateOf : Core → State
+stateOf c =
+    record { regs = c .regs; pc = c .pc; depth = length (c .frames); gc = numbersOf (c .land .pages); strings = record { active = length (c .land .slots); len = c .land .names } }
+
+same-state : (s t : State) → s .regs ≡ t .regs → s .pc ≡ t .pc → s .depth ≡ t .depth → s .gc ≡ t .gc → s .strings ≡ t .strings → s ≡ t
+same-state s t a b d e f =
+    let k : s ≡ record { regs = t .regs; pc = t .pc; depth = t .depth; gc = t .gc; strings = t .strings } = rw (← a, ← b, ← d, ← e, ← f) refl in
+    k
+
+state-is : (n : Sizes) (c : Core) (m : Machine) → Holds n c m → m .state ≡ stateOf c
+unfolding view
+state-is n c m h = same-state (m .state) (stateOf c) (ap (λ (d : Core). d .regs) (h .core)) (ap (λ (d : Core). d .pc) (h .core)) (h .depth) (h .gc) (h .strings)
+
+same : (S L : Sizes) (c : Core) (s l : Machine) → Holds S c s → Holds L c l → Same s l
+unfolding Same
+same S L c s l hs hl = (state-is S c s hs ∙ sym (state-is L c l hl), hs .core ∙ sym (hl .core))
 
 -- after a call that no test refuses the machine holds a core, and it is the same core on both machines where the smaller did not run out
 module _ (S L : Sizes) (le : S ⊑ L) (room : 1 ≤ S .frames) (c : Core) (s l : Machine) (hs : Holds S c s) (hl : Holds L c l) where
@@ -56,12 +76,12 @@ module _ (S L : Sizes) (le : S ⊑ L) (room : 1 ≤ S .frames) (c : Core) (s l :
   alike (host k) m h = rw (host-is S k c s hs, host-is L k c l hl) (granted-alike k _ refl (rw (host-is S k c s hs) at h))
 
   -- the run in which the smaller runs out
-  cut-lift : (im : Image) (d : Core) (t : Machine) (a : Answer) → view t ≡ d → failing (testsOn (run im 0) c) ≡ none → CutOn S L le im (length (im .code)) c d a → CutAt im t l a
-  unfolding CutAt testsOn tried
+  cut-lift : (im : Image) (d : Core) (t : Machine) (a : Answer) → Holds S d t → failing (testsOn (run im 0) c) ≡ none → CutOn S L le im (length (im .code)) c d a → CutAt im t l a
+  unfolding CutAt testsOn tried setPc
   cut-lift im d t (ended e p n) v f (x, y) =
       let k = length (im .code) in
-      let g = runs-good L im n k c (hl .fits) in
-      rw (perform-is L (run im n) c l hl, f, run-is L im n c l hl, v) (x, holds-run L c l hl (runs L im n k c) g .core ∙ y)
+      let h = holds-run L c l hl (runs L im n k c) (runs-good L im n k c (hl .fits)) in
+      rw (perform-is L (run im n) c l hl, f, run-is L im n c l hl, v .core, state-is S d t v) (x, state-is L _ _ h ∙ ap stateOf y, h .core ∙ y)
   cut-lift im d t (value w) v f x = absurd x
   cut-lift im d t done v f x = absurd x
   cut-lift im d t (refused e) v f x = absurd x
@@ -72,7 +92,7 @@ module _ (S L : Sizes) (le : S ⊑ L) (room : 1 ≤ S .frames) (c : Core) (s l :
       let k = length (im .code) in
       let g = runs-good S im b k c (hs .fits) in
       rw (run-is S im b c s hs)
-      (cut-lift im _ _ (runs S im b k c .answer) (holds-run S c s hs (runs S im b k c) g .core) f (runs-up S L le im b 0 k c .1 (rw (run-is S im b c s hs) at h)))
+      (cut-lift im _ _ (runs S im b k c .answer) (holds-run S c s hs (runs S im b k c) g) f (runs-up S L le im b 0 k c .1 (rw (run-is S im b c s hs) at h)))
   cut-case (light k) f h = tt
   cut-case (host k) f h = tt
 
@@ -86,20 +106,20 @@ module _ (S L : Sizes) (le : S ⊑ L) (room : 1 ≤ S .frames) (c : Core) (s l :
 module _ (S L : Sizes) (le : S ⊑ L) (room : 1 ≤ S .frames) where
   agree-case : (p : Pair) (ps : List Pair) (c : Core) (s l : Machine) → Holds S c s → Holds L c l
       → ((c : Core) (s l : Machine) → Holds S c s → Holds L c l → Agree s l ps) → (t : Option ℕ) → failing (testsOn (p .call) c) ≡ t → Agree s l (p ∷ ps)
-  unfolding Agree Same tried ranOut
+  unfolding Agree tried ranOut
   agree-case p ps c s l hs hl ih none e =
       rw (perform-is S (p .call) c s hs, perform-is L (raised (p .call) (p .more)) c l hl, raised-tests, e) (
-        hs .core ∙ sym (hl .core),
+        same S L c s l hs hl,
         λ h. let q = alike S L le room c s l hs hl (p .call) (p .more) h in (q .answer, ih _ _ _ (q .small) (q .large)),
         λ h. cut-case S L le room c s l hs hl (p .call) e h,
       )
   agree-case p ps c s l hs hl ih (some k) e =
       rw (perform-is S (p .call) c s hs, perform-is L (raised (p .call) (p .more)) c l hl, raised-tests, e)
-      (hs .core ∙ sym (hl .core), λ h. (refl, ih c s l hs hl), λ h. refused-cut S L le room c s l hs hl (p .call) s k e h)
+      (same S L c s l hs hl, λ h. (refl, ih c s l hs hl), λ h. refused-cut S L le room c s l hs hl (p .call) s k e h)
 
   pub agree : (ps : List Pair) (c : Core) (s l : Machine) → Holds S c s → Holds L c l → Agree s l ps
-  unfolding Agree Same
-  agree [] c s l hs hl = hs .core ∙ sym (hl .core)
+  unfolding Agree
+  agree [] c s l hs hl = same S L c s l hs hl
   agree (p ∷ ps) c s l hs hl = agree-case p ps c s l hs hl (λ c s l. agree ps c s l) (failing (testsOn (p .call) c)) refl
 
 -- ---- the theorem

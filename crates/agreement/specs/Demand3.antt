@@ -4,6 +4,7 @@ use mathlib.Core.Path.{_≡_}
 use Prim.Native.Nat.{ℕ, _+_}
 use mathlib.Core.Bool.{true, false}
 use mathlib.Core.List.{List, [], _∷_}
+use Rattle.vm.specs.declared.State.{State}
 use Rattle.vm.specs.Core.{_⊑_, setPc}
 use Rattle.program.specs.Image.{Image}
 use Rattle.vm.specs.Machine.{Lent, Machine, sizes, view, Call, run, light, host, Answer, ended, value, done, refused, ranOut, perform, begun, start}
@@ -19,14 +20,22 @@ raised (run im b) n = run im (b + n)
 raised (light k) n = light k
 raised (host k) n = host k
 
--- what is compared: registers, stored pc, frames in use, 'pushed pages .. in places, bytes and last length', active slots, count of names
+-- what is compared: registers, stored pc, depth, the numbers of the heap and of the table, count of names; and what these say is in use: frames,
+-- 'pushed pages .. in places, bytes and last length', active slots
 unfoldable pub Same : Machine → Machine → Type 0
-Same s l = view s ≡ view l
+Same s l = (s .state ≡ l .state) × (view s ≡ view l)
+
+-- a state with another pc
+abbrev pub atPc : ℕ → State → State
+atPc p s = record { regs = s .regs; pc = p; depth = s .depth; gc = s .gc; strings = s .strings }
 
 -- 'n is the steps in the smaller's answer; the larger answers 5, n, and as next pc the place of the instruction the smaller stopped at or
 -- would do next; stored pcs aren't compared there'. s is the smaller after that run, l the larger before it
 unfoldable pub CutAt : Image → Machine → Machine → Answer → Type 0
-CutAt im s l (ended e p n) = (perform (run im n) l .answer ≡ ended 5 p n) × (view (perform (run im n) l .machine) ≡ setPc p (view s))
+CutAt im s l (ended e p n) =
+    (perform (run im n) l .answer ≡ ended 5 p n)
+    × (perform (run im n) l .machine .state ≡ atPc p (s .state))
+    × (view (perform (run im n) l .machine) ≡ setPc p (view s))
 CutAt im s l (value v) = ⊥
 CutAt im s l done = ⊥
 CutAt im s l (refused e) = ⊥

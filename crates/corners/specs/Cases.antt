@@ -5,7 +5,7 @@ use mathlib.Core.Bool.{Bool, true, false, cond, not, _&&_, _||_}
 use mathlib.Core.Option.{Option, none, some}
 use mathlib.Core.List.{List, [], _∷_, _++_}
 use Prim.Native.Nat.{ℕ, zero, suc, _+_, _-_, _*_, _^_}
-use lib.ListN.{length, getD, replicate}
+use lib.ListN.{length, getD, replicate, take, drop}
 use lib.Bits.{bitAnd, bitXor}
 use lib.Ieee as Ieee
 use lib.Ieee.{isNan, ofBits, toBits, ofInt, toSigned}
@@ -49,27 +49,31 @@ image code switches = record { code = code; globals = []; switches = switches; l
 abbrev B : ℕ
 B = 0x10000
 
--- so many frames, two pages, so many slots
-unfoldable pub lent : ℕ → ℕ → Lent
-lent frames slots = record { frames = replicate frames 0; heap = replicate 8192 0; slots = replicate slots 0; spare = replicate slots 0 }
+-- so many frames, pages and slots, none of them cleared
+unfoldable pub lent : ℕ → ℕ → ℕ → Lent
+lent frames pages slots = record { frames = replicate frames 7; heap = replicate (pages * 4096) 7; slots = replicate slots 7; spare = replicate slots 7 }
 
 unfoldable pub startedIn : Lent → Started → Machine
 startedIn l (declined e) = blank 0 l
 startedIn l (begun m) = m
 
--- a machine started on no code
-unfoldable pub fresh : ℕ → ℕ → Machine
-fresh frames slots = startedIn (lent frames slots) (start (image [] noTables) B (lent frames slots))
+-- a machine started on an image
+unfoldable pub started : Image → ℕ → ℕ → ℕ → Machine
+started im frames pages slots = startedIn (lent frames pages slots) (start im B (lent frames pages slots))
+
+-- a machine started on no code, with two pages
+abbrev fresh : ℕ → ℕ → Machine
+fresh frames slots = started (image [] noTables) frames 2 slots
 
 unfoldable pub afterAll : List Call → Machine → Machine
 afterAll [] m = m
 afterAll (k ∷ ks) m = afterAll ks (perform k m .machine)
 
--- a value, or an end with its pc and steps as one number, or a refusal, told apart from every value
+-- an answer as one number: a value, from 2 ^ 64 on a refusal, and from 2 ^ 128 on an end with its pc and steps. None of these cases is just done
 unfoldable pub said : Answer → ℕ
-said (ended e pc steps) = e * 2 ^ 64 + pc * 2 ^ 32 + steps
+said (ended e pc steps) = 2 ^ 128 + (e * 2 ^ 64 + pc) * 2 ^ 32 + steps
 said (value v) = v
-said done = 0
+said done = 2 ^ 64
 said (refused e) = 2 ^ 64 + e
 
 abbrev answered : Call → Machine → ℕ
@@ -77,6 +81,14 @@ answered k m = said (perform k m .answer)
 
 abbrev register : ℕ → Machine → ℕ
 register r m = getD (m .state .regs) r 0
+
+unfoldable pub summed : List ℕ → ℕ
+summed [] = 0
+summed (x ∷ xs) = x + summed xs
+
+-- 8 bytes of the heap, from so many behind B on
+abbrev heapWord : ℕ → Machine → ℕ
+heapWord at m = valueOf (take 8 (drop at (m .lent .heap)))
 
 -- names of one byte each: n of them
 unfoldable pub singles : ℕ → List Call
@@ -113,7 +125,14 @@ rows =
     ∷ (afterAll (singles 1) (fresh 1 128) .state .strings .active, 64)
     ∷ (afterAll (singles 32) (fresh 1 128) .state .strings .active, 64)
     ∷ (afterAll (singles 33) (fresh 1 128) .state .strings .active, 128)
-    -- gc.rs: `Vm::new_in` boxes [0, 0]: `none` is B+16 and page 0 has length 32
+    -- .. replacing the old ones in slot order: two names whose homes collide in 128 slots stand in the order of the old slots
+    ∷ (getD (afterAll (singles 33) (fresh 1 128) .lent .slots) 8 0, B + 0x130)
+    ∷ (getD (afterAll (singles 33) (fresh 1 128) .lent .slots) 9 0, B + 0x310)
+    -- gc.rs: `Vm::new_in` boxes [0, 0] in a block of 16 bytes, an Option (2): `none` is B+16 and page 0 has length 32
+    ∷ (heapWord 0 (fresh 1 64), 16)
+    ∷ (heapWord 8 (fresh 1 64), 2)
+    ∷ (heapWord 16 (fresh 1 64), 0)
+    ∷ (heapWord 24 (fresh 1 64), 0)
     ∷ (answered (host (option none)) (fresh 1 64), B + 16)
     ∷ (fresh 1 64 .state .gc .len, 32)
     -- then interning empty, `a`, `a` gives B+48, B+72, B+72; page length 81
@@ -143,17 +162,18 @@ rows =
     ∷ (register 1 (perform (run (switching (B + 72)) 10) (fresh 1 64) .machine), 6)
     ∷ (register 1 (perform (run (switching (B + 50)) 10) (fresh 1 64) .machine), 1)
     -- `Call` at depth 1 with one frame ends 3, at its own place and after no step
-    ∷ (answered (run calling 10) (fresh 1 64), 3 * 2 ^ 64)
-    -- the worked image: end 0, pc 2, 3 steps; r0 is 7, r1 is 6; depth 1, one page of length 32, no string
-    ∷ (answered (run worked 10) (fresh 4 64), 2 * 2 ^ 32 + 3)
-    ∷ (register 0 (perform (run worked 10) (fresh 4 64) .machine), 7)
-    ∷ (register 1 (perform (run worked 10) (fresh 4 64) .machine), 6)
-    ∷ (perform (run worked 10) (fresh 4 64) .machine .state .depth, 1)
-    ∷ (perform (run worked 10) (fresh 4 64) .machine .state .gc .pushed, 4096)
-    ∷ (perform (run worked 10) (fresh 4 64) .machine .state .gc .len, 32)
-    ∷ (perform (run worked 10) (fresh 4 64) .machine .state .strings .len, 0)
+    ∷ (answered (run calling 10) (fresh 1 64), 2 ^ 128 + 3 * 2 ^ 96)
+    -- the worked image: end 0, pc 2, 3 steps; r0 is 7, r1 is 6 and no other register is set; depth 1, one page of length 32, no string
+    ∷ (answered (run worked 10) (started worked 4 1 64), 2 ^ 128 + 2 * 2 ^ 32 + 3)
+    ∷ (register 0 (perform (run worked 10) (started worked 4 1 64) .machine), 7)
+    ∷ (register 1 (perform (run worked 10) (started worked 4 1 64) .machine), 6)
+    ∷ (summed (perform (run worked 10) (started worked 4 1 64) .machine .state .regs), 13)
+    ∷ (perform (run worked 10) (started worked 4 1 64) .machine .state .depth, 1)
+    ∷ (perform (run worked 10) (started worked 4 1 64) .machine .state .gc .pushed, 4096)
+    ∷ (perform (run worked 10) (started worked 4 1 64) .machine .state .gc .len, 32)
+    ∷ (perform (run worked 10) (started worked 4 1 64) .machine .state .strings .len, 0)
     ∷ []
 
 pub all-hold : hold rows ≡ true
-unfolding rows hold lent startedIn fresh afterAll said singles shown switching calling worked bytesOf valueOf over write same signed pattern Int.divided bits isNan ofBits toBits ofInt toSigned mixed folded chunks hashOf smallHashOf payloadOf reaches headed holds home probe lookup never filled placed read storedHash movedOne moved enlarged roomOf widened roomy spared Table.slotCount Table.activeOk Table.one Table.filledIn Table.headerIn Table.headersIn Table.countOk Table.slotsOk Table.soundOf headerOf Pages.growOf Pages.gapOf Pages.holds Pages.block Pages.pushed Pages.fitted Pages.allocated pagesOf numbersOf Heap.soundOf Op.rows decodedBy decodeOf checkOf used lacking short setReg setPc setFrames setLand setPages setBytes startOf entriesOf counts rising tablesOk imageOk endsInHalt below wordTest wordTests imageTests divided jumpIf within slot switched effectOf provided forward addressed loaded stored8 returned took apply wordEffect fetched unless limited step after go root entered stored Names.filled Names.took Names.allocates Names.boxed Names.optional Names.entered Names.fresh Names.known Names.interned sizes landOf view withPages withNames traced withFrames withRegs ran idle runs hosted lightly laid runLeaves hostLeaves granted hostCall runCall act framesOk heapOk slotsOk returnsOk framesBelong pagesBelong namesBelong smallOk tests failing tried perform firstPage firstLand blank begin starts start
+unfolding rows hold lent startedIn started afterAll said summed singles shown switching calling worked bytesOf valueOf over write same signed pattern Int.divided bits isNan ofBits toBits ofInt toSigned mixed folded chunks hashOf smallHashOf payloadOf reaches headed holds home probe lookup never filled placed read storedHash movedOne moved enlarged roomOf widened roomy spared Table.slotCount Table.activeOk Table.one Table.filledIn Table.headerIn Table.headersIn Table.countOk Table.slotsOk Table.soundOf headerOf Pages.growOf Pages.gapOf Pages.holds Pages.block Pages.pushed Pages.fitted Pages.allocated pagesOf numbersOf Heap.soundOf Op.rows decodedBy decodeOf checkOf used lacking short setReg setPc setFrames setLand setPages setBytes startOf entriesOf counts rising tablesOk imageOk endsInHalt below wordTest wordTests imageTests divided jumpIf within slot switched effectOf provided forward addressed loaded stored8 returned took apply wordEffect fetched unless limited step after go root entered stored Names.filled Names.took Names.allocates Names.boxed Names.optional Names.entered Names.fresh Names.known Names.interned sizes landOf view withPages withNames traced withFrames withRegs ran idle runs hosted lightly laid runLeaves hostLeaves granted hostCall runCall act framesOk heapOk slotsOk returnsOk framesBelong pagesBelong namesBelong smallOk tests failing tried perform firstPage firstLand blank begin starts start
 all-hold = refl
