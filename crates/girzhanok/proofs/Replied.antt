@@ -12,7 +12,7 @@ use Rattle.vm.specs.declared.State.{State}
 use Rattle.vm.specs.declared.Reply.{Reply}
 use Rattle.vm.proofs.Reply as replies
 use Rattle.vm.specs.Told.{saidOf}
-use Rattle.vm.specs.Loop.{answerOf}
+use Rattle.vm.specs.Told.{answerOf}
 use Rattle.girzhanok.specs.Words.{packed}
 use Rattle.girzhanok.specs.Served.{numberOf, answered, kept}
 

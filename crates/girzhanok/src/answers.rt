@@ -4,18 +4,18 @@ ghost use mathlib.Core.List.{[], _∷_};
 ghost use Prim.Native.Nat.{_≤_};
 ghost use lib.ListN.{length};
 ghost use Rattle.vm.specs.Told.{saidOf, optionOf, holding};
-ghost use Rattle.vm.specs.Loop.{answerOf};
+ghost use Rattle.vm.specs.Told.{answerOf};
 ghost use Rattle.girzhanok.specs.Words.{stateWords, unpacked};
 ghost use Rattle.girzhanok.specs.Served.{numberOf, answered, given, kept};
 use crate::words::pack;
 use crate::words::pack_names;
 use anomaly::End;
 use anomaly::Steps;
+use names::interner::Interned;
+use run::Ran;
 use vm::Called;
 use vm::Opt;
 use vm::Reply;
-use vm::names::Interned;
-use vm::run::Ran;
 
 // The number of a reply. The words of the state are written unless it is a refusal.
 pub fn answer(called: Called, words: &mut [u64]) -> u64

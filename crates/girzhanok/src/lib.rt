@@ -18,7 +18,7 @@ use answers::answer_name;
 use answers::answer_run;
 use answers::answer_value;
 use answers::opt;
-use vm::names;
+use names::interner;
 use vm::start;
 use words::STATE_WORDS;
 use words::pack;
@@ -91,7 +91,8 @@ pub extern "C" fn girzhanok_run(
     if state.len() < STATE_WORDS {
         return Refusal::SIZE;
     }
-    let ran = unpack(state).run(
+    let ran = run::run(
+        unpack(state),
         budget,
         code,
         globals,
@@ -194,7 +195,7 @@ pub extern "C" fn girzhanok_intern(
     }
     let gc = unpack_heap(state);
     let strings = unpack_table(state);
-    let interned = names::intern(gc, strings, name, heap, slots, spare);
+    let interned = interner::intern(gc, strings, name, heap, slots, spare);
     answer_name(interned, state, value)
 }
 
@@ -215,6 +216,6 @@ pub extern "C" fn girzhanok_intern_small(
     }
     let gc = unpack_heap(state);
     let strings = unpack_table(state);
-    let interned = names::intern_small(gc, strings, len, word, heap, slots, spare);
+    let interned = interner::intern_small(gc, strings, len, word, heap, slots, spare);
     answer_name(interned, state, value)
 }

@@ -1,11 +1,11 @@
 // Each of the machine's calls, with a refused one of each number from 9 to 18, printed: a label, and what was answered.
 use anomaly::End;
 use libc::STDOUT_FILENO;
+use run::Ran;
 use vm::Called;
 use vm::Opt;
 use vm::Reply;
 use vm::State;
-use vm::run::Ran;
 use vm::start;
 
 const BASE: u64 = 65536;
@@ -64,7 +64,8 @@ fn run(
     heap: &mut [u8],
 ) -> State {
     let none: [u64; 0] = [];
-    let ran = state.run(
+    let ran = run::run(
+        state,
         budget,
         code,
         &none,
@@ -167,7 +168,8 @@ fn refused_runs(state: State, frames: &mut [u64; 4], heap: &mut [u8; 8192]) -> S
     );
     let none: [u64; 0] = [];
     let one: [u64; 1] = [1];
-    let ran = state.run(
+    let ran = run::run(
+        state,
         1,
         &halt,
         &none,
@@ -201,16 +203,25 @@ fn names(
     slots: &mut [u64; 64],
     spare: &mut [u64; 64],
 ) -> State {
-    let s = said(b"intern nothing", state.intern(b"", heap, slots, spare));
-    let s = said(b"intern gold", s.intern(b"gold", heap, slots, spare));
-    let s = said(b"intern gold again", s.intern(b"gold", heap, slots, spare));
+    let s = said(
+        b"intern nothing",
+        names::intern(state, b"", heap, slots, spare),
+    );
+    let s = said(
+        b"intern gold",
+        names::intern(s, b"gold", heap, slots, spare),
+    );
+    let s = said(
+        b"intern gold again",
+        names::intern(s, b"gold", heap, slots, spare),
+    );
     let s = said(
         b"intern gold as a word",
-        s.intern_small(4, 0x646c_6f67, heap, slots, spare),
+        names::intern_small(s, 4, 0x646c_6f67, heap, slots, spare),
     );
     said(
         b"intern 9 bytes as a word",
-        s.intern_small(9, 0, heap, slots, spare),
+        names::intern_small(s, 9, 0, heap, slots, spare),
     )
 }
 
@@ -224,16 +235,16 @@ fn many_names(
     let mut s = state;
     let mut i: u64 = 1;
     while i < 31 {
-        s = s.intern_small(1, i, heap, slots, spare).state;
+        s = names::intern_small(s, 1, i, heap, slots, spare).state;
         i += 1;
     }
     said(
         b"intern the 32nd name",
-        s.intern_small(1, 30, heap, slots, spare),
+        names::intern_small(s, 1, 30, heap, slots, spare),
     );
     said(
         b"intern the 33rd name",
-        s.intern_small(1, 31, heap, slots, spare),
+        names::intern_small(s, 1, 31, heap, slots, spare),
     )
 }
 

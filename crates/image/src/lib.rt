@@ -15,7 +15,7 @@ ghost use Rattle.text.specs.Sections.{sectionIn};
 ghost use Rattle.program.specs.Image.{imageOf, tablesOf};
 ghost use Rattle.vm.specs.Machine.{start, run, perform};
 ghost use Rattle.vm.specs.Told.{lentOf, machineOf, saidOf, told};
-ghost use Rattle.vm.specs.Loop.{answerOf};
+ghost use Rattle.vm.specs.Told.{answerOf};
 ghost use Rattle.image.specs.Runner as Runner;
 ghost use Rattle.image.specs.Runner.{imageWith, imageIn, lentFor, roomFor, Entered, enters, replyText, summaryOf, ranText, toldText, namedText, startedText, imageText, Says};
 use anomaly::End;
@@ -23,6 +23,7 @@ use anomaly::Refusal;
 use anomaly::Steps;
 use gc::PAGE_SIZE;
 use report::Summary;
+use run::Ran;
 use text::Head;
 use text::Reading;
 use text::names;
@@ -32,7 +33,6 @@ use text::sections::Section;
 use vm::Called;
 use vm::Reply;
 use vm::State;
-use vm::run::Ran;
 use vm::start;
 
 // The report of a run that was made.
@@ -92,7 +92,7 @@ fn intern_names(
                 state: s,
             };
         };
-        let called = s.intern(&name[..len], heap, slots, spare);
+        let called = names::intern(s, &name[..len], heap, slots, spare);
         let reply = called.reply;
         match reply {
             Reply::Value(v) => {
@@ -183,7 +183,8 @@ fn rate(
         }
     }
     let budget = head.budget as Steps;
-    let ran = named.state.run(
+    let ran = run::run(
+        named.state,
         budget,
         code,
         globals,

@@ -21,7 +21,7 @@ use Rattle.vm.specs.Machine.{firstPage, firstLand}
 use Rattle.vm.specs.Told.{blockOf, landIn}
 use Rattle.vm.proofs.Starting.{first-length}
 use Rattle.vm.proofs.Kept.{allocated-base}
-use Rattle.vm.proofs.Interning.{Placed, allocated-placed, Given-at, at-said, refused-said}
+use Rattle.vm.proofs.Blocks.{Placed, allocated-placed, Given-at, at-said, refused-said}
 
 -- ---- a box: two words in the payload of a block that was granted
 

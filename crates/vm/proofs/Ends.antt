@@ -28,7 +28,7 @@ use Rattle.vm.proofs.Refusals.{failing-numbered, image-alone, call-numb
 use Rattle.vm.proofs.Upward.{go-next, go-halted, go-stop}
 use Rattle.vm.proofs.Kept.{GoodStep, step-good}
 use Rattle.vm.proofs.Runs.{runs-go, runs-past}
-use Rattle.vm.specs.Loop.{Checks, Returns}
+use Rattle.vm.specs.Loaded.{Checks, Returns}
 use Rattle.vm.proofs.Inside.{Inside, StepOk, step-ok}
 
 -- an end with these steps under the budget b: 0 to 8, and 5 just when the budget is completed

@@ -29,7 +29,7 @@ use Rattle.vm.specs.Core.{Core, Land, Sizes, used, lacking, short, _⊑_
 use Rattle.program.specs.Image.{Image, startOf, entriesOf, counts, below}
 use Rattle.program.specs.Effect.{divided, jumpIf, within, switched, effectOf, wordEffect}
 use Rattle.vm.specs.Run.{Step, next, halted, stop, provided, forward, returned, took, apply, fetched, unless, limited, step}
-use Rattle.vm.specs.Loop.{Checks, Returns, Writable}
+use Rattle.vm.specs.Loaded.{Checks, Returns, Writable}
 use Rattle.vm.proofs.Fits.{fits-of}
 use Rattle.vm.proofs.Kept.{Kept, KeptStep, apply-kept}
 

@@ -12,10 +12,7 @@ pub mod Starting
 pub mod Inside
 pub mod Ends
 pub mod Replies
+pub mod Blocks
 pub mod Boxes
 pub mod Loading
-pub mod Interning
 pub mod Grows
-pub mod Turns
-pub mod Loops
-pub mod Entering

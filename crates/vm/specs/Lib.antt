@@ -4,5 +4,4 @@ pub mod Run
 pub mod Names
 pub mod Machine
 pub mod Told
-pub mod Interned
-pub mod Loop
+pub mod Loaded

@@ -1,23 +1,20 @@
 -- The machine: its state and the lent buffers, the calls, their refusals in the paper's order, and the start. Definitions only.
 use Prim.Native.Nat.{ℕ, zero, suc, _+_, _-_, _*_, _%_, _^_}
-use mathlib.Core.Bool.{Bool, true, false, _&&_, _||_}
+use mathlib.Core.Bool.{Bool, true, false, _&&_}
 use mathlib.Core.Option.{Option, none, some}
 use mathlib.Core.List.{List, [], _∷_, _++_}
 use lib.ListN.{length, take, drop, set, replicate}
 use lib.Dec.{leb, ltb, eqb}
-use Rattle.memory.specs.Bytes.{bytesOf}
 use Rattle.memory.specs.Lists.{over}
-use Rattle.string.specs.declared.table.StrTable.{StrTable}
 use Rattle.string.specs.Payload.{smallName}
 use Rattle.string.specs.Grow.{spared}
 use Rattle.string.specs.Sound as Table
-use Rattle.gc.specs.declared.Gc.{Gc}
 use Rattle.gc.specs.Pages.{Pages}
 use Rattle.gc.specs.Lent.{pageSize, pagesOf, numbersOf}
 use Rattle.gc.specs.Lent as Heap
 use Rattle.op.specs.Layout.{isAlignment}
 use Rattle.vm.specs.declared.State.{State}
-use Rattle.vm.specs.Core.{Core, Land, Sizes, used, short, spent, setReg, setPc, setFrames, setLand}
+use Rattle.vm.specs.Core.{Core, Land, Sizes, used, short, spent, setLand}
 use Rattle.program.specs.Image.{Image, Test, test, below, imageTests, failing}
 use Rattle.vm.specs.Run.{Ran, go, root, entered, stored}
 use Rattle.vm.specs.Names.{Given, allocates, boxed, optional, interned}

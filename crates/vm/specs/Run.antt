@@ -13,7 +13,7 @@ use Rattle.gc.specs.Lent.{pageSize}
 use Rattle.op.specs.Decode.{decodeOf}
 use Rattle.program.specs.declared.Effect.{Effect}
 use Rattle.program.specs.declared.Effect.the-variants as effect
-use Rattle.vm.specs.Core.{Core, Land, Sizes, used, short, setReg, setPc, setFrames, setLand, setPages, setBytes}
+use Rattle.vm.specs.Core.{Core, Sizes, used, short, setReg, setPc, setFrames, setLand, setPages, setBytes}
 use Rattle.program.specs.Image.{Image}
 use Rattle.program.specs.Effect.{unlisted, wordEffect}
 

@@ -3,7 +3,8 @@ use Prim.Native.Nat.{ℕ}
 use mathlib.Core.Option.{Option, none, some}
 use mathlib.Core.List.{List, []}
 use Rattle.anomaly.specs.declared.Refusal.{Refusal}
-use Rattle.anomaly.specs.Table.{numberOfRefusal}
+use Rattle.anomaly.specs.declared.End.{End}
+use Rattle.anomaly.specs.Table.{numberOfAnomaly, pcOfAnomaly, stepsOfAnomaly, numberOfRefusal}
 use Rattle.string.specs.declared.table.StrTable.{StrTable}
 use Rattle.gc.specs.declared.Alloc.{Alloc}
 use Rattle.gc.specs.declared.Gc.{Gc}
@@ -15,7 +16,7 @@ use Rattle.vm.specs.declared.Called.{Called}
 use Rattle.vm.specs.declared.Opt.{Opt}
 use Rattle.vm.specs.Core.{Land}
 use Rattle.vm.specs.Names.{Given}
-use Rattle.vm.specs.Machine.{Lent, Machine, Answer, value, done, refused, Started, declined, begun, blank}
+use Rattle.vm.specs.Machine.{Lent, Machine, Answer, ended, value, done, refused, Started, declined, begun, blank}
 use Rattle.vm.specs.Machine as Machine
 
 abbrev pub lentOf : List ℕ → List ℕ → List ℕ → List ℕ → Lent
@@ -61,3 +62,10 @@ optionOf (Opt.Some v) = some v
 unfoldable pub startedOn : Started → ℕ → Lent → Machine.Called
 startedOn (declined e) base l = record { answer = refused e; machine = blank base l }
 startedOn (begun m) base l = record { answer = done; machine = m }
+
+-- what a run is answered with
+unfoldable pub answerOf : End → Answer
+answerOf (End.Halt pc steps) = ended 0 pc steps
+answerOf (End.Budget pc steps) = ended 5 pc steps
+answerOf (End.Stopped why) = ended (numberOfAnomaly why) (pcOfAnomaly why) (stepsOfAnomaly why)
+answerOf (End.Refused why) = refused (numberOfRefusal why)

@@ -8,8 +8,6 @@ ghost use Rattle.vm.specs.Names.{boxed};
 ghost use Rattle.vm.specs.Told.{lentOf, machineOf, told, refusedBy, allocatedIn, blockOf, landIn, optionOf};
 
 pub mod lent;
-pub mod names;
-pub mod run;
 pub mod start;
 
 use anomaly::Refusal;

@@ -1,6 +1,6 @@
 -- `image::put_ran` meets its contract. Assumes nothing.
 use mathlib.Core.Path.{_≡_, refl}
-use Rattle.vm.specs.Loop.{answerOf}
+use Rattle.vm.specs.Told.{answerOf}
 use Rattle.image.specs.Runner.{ranText}
 use Rattle.image.proofs.Answers.{refusal-says}
 use borrow.Author.Needs.{needs}

@@ -1,6 +1,6 @@
 -- `girzhanok::answers::answer_run` meets its contract. Assumes nothing.
 use mathlib.Core.Path.{refl, _∙_}
-use Rattle.vm.specs.Loop.{answerOf}
+use Rattle.vm.specs.Told.{answerOf}
 use Rattle.girzhanok.specs.Served.{answered, kept}
 use Rattle.girzhanok.proofs.Replied.{end-number, end-answers, end-kept}
 use borrow.Author.Needs.{needs}

@@ -1,0 +1,2 @@
+-- The laws of an interning.
+pub mod Interning

@@ -1,0 +1,2 @@
+-- What the parts of an interning come to.
+pub mod Interned

@@ -1,0 +1,246 @@
+-- A run from its call on: what its tests leave, frame 0, and how the call's answer comes from the loop's. Assumes nothing.
+use mathlib.Core.Path.{_≡_, refl, sym, ap, _∙_}
+use Prim.Native.Nat.{ℕ, zero, suc, _+_, _-_, _%_, _^_, _≤_, _<_}
+use mathlib.Core.Bool.{Bool, true, false, cond, _&&_, _||_}
+use mathlib.Core.Option.{none, some}
+use mathlib.Core.List.{List, [], _∷_}
+use native.Mathlib.Omega.{arith}
+use native.Mathlib.Nat.{zero-add}
+use lib.ListN.{length, take, set, length-set}
+use lib.Seq.{take-set-lt}
+use lib.Dec.{leb, ltb, eqb}
+use borrow.Author.Tests.{leb-true, le-leb, lt-ltb, le-ltb, eqb-true, eqb-false, leb-false}
+use Rattle.anomaly.specs.Table.{isAnomaly}
+use Rattle.anomaly.proofs.Numbers.{both}
+use Rattle.gc.specs.Lent.{Sound}
+use Rattle.gc.specs.Lent as Heap
+use Rattle.gc.proofs.Soundness as Soundness
+use Rattle.program.specs.Image.{Image, tablesOk, imageOk, imageTests, failing}
+use Rattle.vm.specs.declared.State.{State}
+use Rattle.run.specs.declared.Position.{Position}
+use Rattle.vm.specs.Core.{Core, setPc, setFrames}
+use Rattle.vm.specs.Run.{Ran, go, root, entered, stored}
+use Rattle.vm.specs.Machine.{Lent, Machine, sizes, landOf, view, withPages, traced, withFrames, withRegs, laid, run, Called, ended, refused, ran, idle, runs, runLeaves, runCall, act, framesOk, heapOk, framesBelong, pagesBelong, tests, tried, perform}
+use Rattle.vm.specs.Told.{lentOf, machineOf}
+use Rattle.vm.specs.Loaded.{Loaded}
+use Rattle.run.specs.Loop.{Going, Finished, finishes, finished, storedPc}
+use Rattle.program.proofs.Asks.{difference}
+use Rattle.vm.proofs.Fits.{view-fits}
+use Rattle.program.proofs.Tests.{failing-here, failing-later}
+use Rattle.vm.proofs.Buffers.{frames-room, heap-low}
+use Rattle.vm.proofs.Replies.{over-first}
+use Rattle.vm.proofs.Runs.{runs-go, runs-past}
+use Rattle.vm.proofs.Inside.{Inside}
+use Rattle.vm.proofs.Ends.{Listed, all-passed, code-size, checks, from-inside, go-listed}
+use Rattle.run.proofs.Turns.{laid-same}
+
+take-first : (d : ℕ) (xs : List ℕ) (v : ℕ) → take d (set xs 0 v) ≡ set (take d xs) 0 v
+take-first zero xs v = refl
+take-first (suc d) xs v = take-set-lt (suc d) xs 0 v (omega arith)
+
+-- an end of the list is 0, 5 or an anomaly's
+pub listed-known : (b e n : ℕ) → Listed b e n → ((eqb e 0 || eqb e 5) || isAnomaly e) ≡ true
+listed-known b e n h = by (eqb e 0) (eqb e 5) refl refl
+  where
+    by : (p q : Bool) → eqb e 0 ≡ p → eqb e 5 ≡ q → ((p || q) || isAnomaly e) ≡ true
+    by true q x y = refl
+    by false true x y = refl
+    by false false x y = low (leb e 4) refl
+      where
+        low : (t : Bool) → leb e 4 ≡ t → isAnomaly e ≡ true
+        low true z = let k = eqb-false e 0 x in rw (le-leb 1 e (omega arith), z) refl
+        low false z =
+            let k = eqb-false e 5 y in
+            let above = leb-false e 4 z in
+            let most = h .number in
+            rw (z, le-leb 6 e (omega arith), le-leb e 8 most, le-leb 1 e (omega arith)) refl
+
+-- ---- the tests: of the image, then of the state
+
+module _ (im : Image) (b : ℕ) (s : State) (frames heap : List ℕ) where
+  -- a run is lent no slots
+  abbrev pub lent : List ℕ → List ℕ → Lent
+  lent slots spare = lentOf frames heap slots spare
+
+  abbrev pub sizes-fine : Bool
+  sizes-fine = framesOk (length frames) && heapOk (s .gc .base) (length heap)
+
+  pub any-slots : failing (tests (run im b) s (lent [] [])) ≡ none → (slots spare : List ℕ) → failing (tests (run im b) s (lent slots spare)) ≡ none
+  unfolding tests framesBelong pagesBelong
+  any-slots f slots spare = f
+
+  module _ (slots spare : List ℕ) where
+    abbrev machine : Machine
+    machine = machineOf s (lent slots spare)
+
+    pub run-refused : (k r : ℕ) → failing (imageTests sizes-fine im) ≡ some k → r ≡ k → record { answer = refused r; machine = machine } ≡ perform (run im b) machine
+    unfolding perform tests tried
+    run-refused k r f e = rw (failing-here (imageTests sizes-fine im) _ k f, tried, e) refl
+
+    run-9 : failing (imageTests sizes-fine im) ≡ none → (framesBelong (length (im .code)) s (lent slots spare) && pagesBelong s (lent slots spare)) ≡ false → record { answer = refused 9; machine = machine } ≡ perform (run im b) machine
+    unfolding perform tests tried failing
+    run-9 f e = rw (failing-later (imageTests sizes-fine im) _ f, e, failing, tried) refl
+
+    pub run-passed : failing (tests (run im b) s (lent slots spare)) ≡ none → runCall im b machine ≡ perform (run im b) machine
+    unfolding perform tried act
+    run-passed f = rw (f, tried) refl
+
+  module _ (f : failing (imageTests sizes-fine im) ≡ none) {p q : Bool} (frames-say : (u : State) (l : Lent) → u .depth ≡ s .depth → l .frames ≡ frames → p ≡ framesBelong (length (im .code)) u l) (pages-say : q ≡ Heap.soundOf (s .gc) (length heap)) where
+    pub run-foreign : (p && q) ≡ false → (slots spare : List ℕ) → record { answer = refused 9; machine = machineOf s (lent slots spare) } ≡ perform (run im b) (machineOf s (lent slots spare))
+    unfolding pagesBelong
+    run-foreign e slots spare = run-9 slots spare f (rw (← (frames-say s (lent slots spare) refl refl), ← pages-say) e)
+
+    pub run-fine : (p && q) ≡ true → failing (tests (run im b) s (lent [] [])) ≡ none
+    unfolding tests pagesBelong failing
+    run-fine e = failing-later (imageTests sizes-fine im) _ f ∙ rw (← (frames-say s (lent [] []) refl refl), ← pages-say, e, failing) refl
+
+-- ---- after the tests
+
+module _ (im : Image) (b : ℕ) (s : State) (frames heap slots spare : List ℕ) (passed : failing (tests (run im b) s (lentOf frames heap slots spare)) ≡ none) where
+  abbrev n : ℕ
+  n = length (im .code)
+
+  abbrev at : Position
+  at = record { pc = s .pc; depth = s .depth; gc = s .gc }
+
+  abbrev m : Machine
+  m = machineOf s (lentOf frames heap slots spare)
+
+  -- with frame 0 written
+  abbrev opened : List ℕ
+  opened = set frames 0 (root n)
+
+  abbrev m₁ : Machine
+  m₁ = machineOf s (lentOf opened heap slots spare)
+
+  lent-fine : (framesOk (length frames) ≡ true) × (heapOk (s .gc .base) (length heap) ≡ true)
+  lent-fine = both (framesOk (length frames)) _ (all-passed im b m passed .lent)
+
+  -- 'writes frame 0 with (length − 2) modulo 2^64'
+  pub root-is : (r : ℕ) → r < 2 ^ 64 → (r + 2) % 2 ^ 64 ≡ n → r ≡ root n
+  unfolding root
+  root-is r h e = let size = code-size im (all-passed im b m passed .image) in difference n 2 r (omega arith) (omega arith) h e
+
+  pub frame-there : 0 < length frames
+  frame-there = frames-room (length frames) (lent-fine .0)
+
+  deep : s .depth ≤ length frames
+  unfolding framesBelong
+  deep = leb-true _ _ (both (leb (s .depth) (length frames)) _ (all-passed im b m passed .frames) .0)
+
+  sound : Sound (s .gc) heap
+  unfolding pagesBelong
+  sound = Soundness.sound (s .gc) heap (heap-low _ _ (lent-fine .1)) (all-passed im b m passed .pages)
+
+  deep-opened : s .depth ≤ length opened
+  deep-opened = rw length-set deep
+
+  view-opened : view m₁ ≡ entered n (view m)
+  unfolding view landOf entered setFrames
+  view-opened = rw (take-first (s .depth) frames (root n)) refl
+
+  sizes-opened : sizes (m₁ .lent) ≡ sizes (m .lent)
+  unfolding sizes
+  sizes-opened = rw length-set refl
+
+  laid-opened : (trail : List (List ℕ)) (c : Core) → laid ((root n ∷ []) ∷ trail) c m ≡ laid trail c m₁
+  unfolding laid withRegs withFrames withPages traced
+  laid-opened trail c = rw over-first refl
+
+  unchanged : laid [] (view m₁) m₁ ≡ m₁
+  unfolding view
+  unchanged = laid-same (s .strings) at (s .regs) opened heap slots spare deep-opened sound (s .regs) (s .pc)
+
+  -- ---- nothing to run
+
+  as-it-was : laid [] (view m) m ≡ m
+  unfolding view
+  as-it-was = laid-same (s .strings) at (s .regs) frames heap slots spare deep sound (s .regs) (s .pc)
+
+  abbrev called : ℕ → Called
+  called k = record { answer = runs (sizes (m .lent)) im b k (view m) .answer; machine = runLeaves m (runs (sizes (m .lent)) im b k (view m)) }
+
+  pub run-empty : n ≡ 0 → record { answer = ended 0 (s .pc) 0; machine = m } ≡ runCall im b m
+  unfolding runCall runLeaves view runs
+  run-empty e = by n e
+    where
+      by : (k : ℕ) → k ≡ 0 → _≡_ {A = Called} (record { answer = ended 0 (s .pc) 0; machine = m }) (called k)
+      by zero q = rw as-it-was refl
+      by (suc k) q = absurd (omega arith)
+
+  frame-alone : laid ((root n ∷ []) ∷ []) (entered n (view m)) m ≡ m₁
+  frame-alone = laid-opened [] (entered n (view m)) ∙ ap (λ (c : Core). laid [] c m₁) (sym view-opened) ∙ unchanged
+
+  beyond : (k : ℕ) → k ≤ s .pc → ltb (view m .pc) k ≡ false
+  unfolding view
+  beyond k h = le-ltb (s .pc) k h
+
+  idles : _≡_ {A = Called} (record { answer = ended 0 (s .pc) 0; machine = m₁ }) (record { answer = ran n (view m .pc) (idle (entered n (view m))) .answer; machine = runLeaves m (ran n (view m .pc) (idle (entered n (view m)))) })
+  unfolding runLeaves ran idle stored
+  idles = rw frame-alone (unfold entered setFrames view in refl)
+
+  pub run-past : 0 < n → n ≤ s .pc → record { answer = ended 0 (s .pc) 0; machine = m₁ } ≡ runCall im b m
+  unfolding runCall
+  run-past words h = by n refl
+    where
+      by : (k : ℕ) → n ≡ k → _≡_ {A = Called} (record { answer = ended 0 (s .pc) 0; machine = m₁ }) (called k)
+      by zero q = absurd (omega arith)
+      by (suc k) q = rw (runs-past (sizes (m .lent)) im b k (view m) (beyond (suc k) (omega arith)), ← q) idles
+
+  -- ---- the loop
+
+  -- the registers and the stored pc of a run that left this machine
+  abbrev pub settled : Finished → Called
+  settled x = record { answer = ended (x .ending) (x .machine .state .pc) (x .steps); machine = withRegs (x .machine .state .regs) (storedPc (x .ending) (s .pc) (x .machine .state .pc)) (x .machine) }
+
+  laid-stored : (t : Bool) (trail : List (List ℕ)) (c : Core) → laid trail (elim t [ true ↦ c | false ↦ setPc (s .pc) c ]) m₁ ≡ withRegs (c .regs) (cond t (c .pc) (s .pc)) (laid trail c m₁)
+  unfolding laid withRegs withFrames withPages setPc
+  laid-stored true trail c = refl
+  laid-stored false trail c = refl
+
+  settles : (r : Ran) → settled (finishes 0 m₁ r) ≡ record { answer = ran n (s .pc) r .answer; machine = runLeaves m (ran n (s .pc) r) }
+  unfolding finishes ran runLeaves stored
+  settles r = rw (laid-opened (r .trail) (stored (r .ending) (s .pc) (r .core)), laid-stored (eqb (r .ending) 0 || eqb (r .ending) 5) (r .trail) (r .core)) (unfold laid withRegs in rw (zero-add (r .steps)) refl)
+
+  pub run-goes : s .pc < n → (x : Finished) → x ≡ finished im b 0 m₁ → settled x ≡ runCall im b m
+  unfolding runCall finished view
+  run-goes h x e = rw e (by n refl)
+    where
+      by : (k : ℕ) → n ≡ k → settled (finishes 0 m₁ (go (sizes (m₁ .lent)) im b (view m₁))) ≡ called k
+      by zero q = absurd (omega arith)
+      by (suc k) q =
+          let inside : ltb (s .pc) (suc k) ≡ true = lt-ltb (s .pc) (suc k) (omega arith) in
+          rw (runs-go (sizes (m .lent)) im b k (view m) inside, ← q, sizes-opened, view-opened) (settles (go (sizes (m .lent)) im b (entered n (view m))))
+
+  -- ---- what the loop asks for
+
+  pub loaded : 0 < n → Loaded im
+  unfolding imageOk
+  loaded words =
+      let p = all-passed im b m passed in
+      let rest = both (leb (length (im .code)) 65536) _ (p .image) .1 in
+      let tables = both (leb (length (im .globals)) 4096) _ rest .1 in
+      let switches = both (tablesOk (im .switches)) _ tables in
+      let lookups = both (tablesOk (im .lookups)) _ (switches .1) in
+      record { size = code-size im (p .image); switches = switches .0; lookups = lookups .0; defaults = eqb-true _ _ (lookups .1); checks = checks im b m passed words }
+
+  inside-opened : s .pc < n → Inside n (entered n (view m))
+  inside-opened h = by n refl
+    where
+      by : (k : ℕ) → n ≡ k → Inside n (entered n (view m))
+      by zero q = absurd (omega arith)
+      by (suc k) q = rw (← q) at (from-inside im b m passed k q (omega arith))
+
+  pub going : s .pc < n → Going n at opened heap
+  unfolding entered setFrames view
+  going h =
+      let i = inside-opened h in
+      record { here = h; returns = rw (take-first (s .depth) frames (root n)) (i .returns); deep = deep-opened; sound = sound }
+
+  pub run-listed : s .pc < n → (x : Finished) → x ≡ finished im b 0 m₁ → ((eqb (x .ending) 0 || eqb (x .ending) 5) || isAnomaly (x .ending)) ≡ true
+  unfolding finished finishes
+  run-listed h x e =
+      let c = entered n (view m) in
+      let fit = rw view-opened at (view-fits m₁ (view m₁) refl refl) in
+      let found = go-listed (sizes (m₁ .lent)) im (checks im b m passed (omega arith)) b c fit (inside-opened h) in
+      rw (e, view-opened) (listed-known b _ _ found)

@@ -1,0 +1,129 @@
+-- `run::go` meets its contract. Assumes nothing.
+use mathlib.Core.Path.{_≡_, refl, sym, _∙_}
+use Prim.Native.Nat.{_-_}
+use native.Mathlib.Omega.{arith}
+use Rattle.program.specs.Image.{tablesOf, imageOf}
+use Rattle.run.proofs.Loops.{Running, running-first, running-next, halted-here, stopped-here, spent-here, asks-writable, next-fits}
+use borrow.Author.Needs.{needs}
+use Rattle.run.proofs.go.Statement.{statement}
+use Rattle.run.proofs.go.Tie as tie
+
+abbrev Inv-loop : tie.InvT-loop
+Inv-loop budget regs₀ code globals switch-firsts switch-ends switch-entries lookup-firsts lookup-ends lookup-entries defaults frames₀ heap₀ at₀ steps₀ regs frames heap at steps = Running (imageOf code globals (tablesOf switch-firsts switch-ends switch-entries) (tablesOf lookup-firsts lookup-ends lookup-entries) defaults) budget regs₀ frames₀ heap₀ at₀ regs frames heap at steps
+
+abbrev μ-loop : tie.MeasureT-loop
+μ-loop budget regs₀ code globals switch-firsts switch-ends switch-entries lookup-firsts lookup-ends lookup-entries defaults frames₀ heap₀ at₀ steps₀ regs frames heap at steps = budget - steps
+
+loop-holds : tie.Need-loop-holds Inv-loop μ-loop
+loop-holds c =
+    let start = c .before .before .before .before .before .before .before .before .before .before .before in
+    running-first _ _ _ _ _ _ (start .pre .1)
+
+shared-slice-read-word-effect : tie.Need-shared-slice-read-word-effect Inv-loop μ-loop
+shared-slice-read-word-effect c =
+    let loop = c .before .before in
+    loop .loop .inv .going .here
+
+word-effect-requires : tie.Need-word-effect-requires Inv-loop μ-loop
+word-effect-requires c κs =
+    let start = c .before .before .before .before .before .before .before .before .before .before .before .before .before .before .before in
+    (start .pre .0 .switches, start .pre .0 .lookups, start .pre .0 .defaults)
+
+apply-requires : tie.Need-apply-requires Inv-loop μ-loop
+apply-requires c κs =
+    let word-effect = c .before .before .before in
+    let loop = word-effect .before .before .before .before in
+    let start = loop .before .before .before .before .before .before .before .before .before .before .before .before in
+    (rw (word-effect .word-effect .ensures (start .args .code .now)) (asks-writable _ (start .pre .0) _ _ _ _ _ _ _ _ _ _ (loop .loop .inv)), next-fits _ (start .pre .0) _ _ _ _ _ _ _ _ _ _ (loop .loop .inv), loop .loop .inv .going .deep, loop .loop .inv .going .sound)
+
+add-t32 : tie.Need-add-t32 Inv-loop μ-loop
+add-t32 c =
+    let loop-test = c .before .before .before .before .before .before .before .before .before .before .before .before .before in
+    let start = loop-test .before .before .before .before .before .before .before .before .before .before .before .before .before in
+    omega (arith, loop-test .loop-test .taken, start .fits .budget)
+
+returns : tie.Need-returns Inv-loop μ-loop
+returns c =
+    let apply = c .before .before .before .before .before .before in
+    let word-effect = apply .before .before .before .before in
+    let loop-test = word-effect .before .before .before in
+    let loop = loop-test .before in
+    let start = loop .before .before .before .before .before .before .before .before .before .before .before .before in
+    λ t slots spare. halted-here _ (start .pre .0) _ _ _ _ _ _ _ _ _ _ (loop .loop .inv) (loop-test .loop-test .taken) t slots spare _ (rw (word-effect .word-effect .ensures (start .args .code .now), c .enum-told .given .1) at (apply .apply .ensures t slots spare))
+
+returns-2 : tie.Need-returns-2 Inv-loop μ-loop
+returns-2 c =
+    let ending = c .before in
+    let apply = ending .before .before .before .before .before .before in
+    let word-effect = apply .before .before .before .before in
+    let loop-test = word-effect .before .before .before in
+    let loop = loop-test .before in
+    let start = loop .before .before .before .before .before .before .before .before .before .before .before .before in
+    λ t slots spare. stopped-here _ (start .pre .0) _ _ _ _ _ _ _ _ _ _ (loop .loop .inv) (loop-test .loop-test .taken) t slots spare _ _ (rw (word-effect .word-effect .ensures (start .args .code .now), ending .ending .given .1) at (apply .apply .ensures t slots spare))
+
+add-steps : tie.Need-add-steps Inv-loop μ-loop
+add-steps c =
+    let loop-test = c .before .before .before .before .before .before .before .before .before .before .before .before .before .before in
+    let start = loop-test .before .before .before .before .before .before .before .before .before .before .before .before .before in
+    omega (arith, loop-test .loop-test .taken, start .fits .budget)
+
+loop-less : tie.Need-loop-less Inv-loop μ-loop
+loop-less c =
+    let loop-test = c .before .before .before .before .before .before .before .before .before .before .before .before .before .before in
+    omega (arith, loop-test .loop-test .taken)
+
+loop-again : tie.Need-loop-again Inv-loop μ-loop
+loop-again c =
+    let to = c .before in
+    let heap = to .before .before .before in
+    let frames = heap .before .before in
+    let apply = frames .before in
+    let word-effect = apply .before .before .before .before in
+    let loop-test = word-effect .before .before .before in
+    let loop = loop-test .before in
+    let start = loop .before .before .before .before .before .before .before .before .before .before .before .before in
+    running-next _ (start .pre .0) _ _ _ _ _ _ _ _ _ _ (loop .loop .inv) (loop-test .loop-test .taken) _ _ _ _ (λ t slots spare. rw (word-effect .word-effect .ensures (start .args .code .now), to .to .given .1) at (apply .apply .ensures t slots spare)) (frames .frames .given) (heap .heap .given)
+
+same-length-5 : tie.Need-same-length-5 Inv-loop μ-loop
+same-length-5 c =
+    let loop = c .before in
+    loop .loop .inv .as-deep
+
+same-length-6 : tie.Need-same-length-6 Inv-loop μ-loop
+same-length-6 c =
+    let loop = c .before in
+    loop .loop .inv .as-long
+
+returns-3 : tie.Need-returns-3 Inv-loop μ-loop
+returns-3 c =
+    let loop = c .before in
+    let start = loop .before .before .before .before .before .before .before .before .before .before .before .before in
+    λ t slots spare. spent-here _ (start .pre .0) _ _ _ _ _ _ _ _ _ _ (loop .loop .inv) (c .loop-test .left) t slots spare
+
+pub go-spec : {M : Type 1} → statement M
+go-spec =
+    tie.close
+    (tie.spec
+    Inv-loop
+    μ-loop
+    loop-holds
+    (λ c. search needs)
+    shared-slice-read-word-effect
+    word-effect-requires
+    apply-requires
+    (λ c. search needs)
+    (λ c. search needs)
+    add-t32
+    (λ c. search needs)
+    (λ c. search needs)
+    returns
+    (λ c. search needs)
+    (λ c. search needs)
+    (λ c. search needs)
+    returns-2
+    add-steps
+    loop-less
+    loop-again
+    same-length-5
+    same-length-6
+    returns-3)

@@ -1,0 +1,31 @@
+-- `run::ret` meets its contract. Assumes nothing.
+use mathlib.Core.Path.{_≡_, refl, sym}
+use Prim.Native.Nat.{suc, _-_}
+use native.Mathlib.Omega.{arith}
+use Rattle.run.proofs.Turns.{turn-underflow, turn-ret}
+use borrow.Author.Needs.{needs}
+use Rattle.run.proofs.ret.Statement.{statement}
+use Rattle.run.proofs.ret.Tie as tie
+
+returns : tie.Need-returns
+returns c =
+    let start = c .before .before .before in
+    λ t regs heap slots spare sound. sym (turn-underflow t _ regs _ heap slots spare (start .pre) sound (c .if1 .taken))
+
+returns-2 : tie.Need-returns-2
+returns-2 c =
+    let if1 = c .before .before .before in
+    let start = if1 .before .before .before in
+    let deeper : start .args .at .depth ≡ suc (start .args .at .depth - 1) = omega (arith, if1 .if1 .left) in
+    λ t regs heap slots spare sound. rw (c .wrapping-add-u64 .ensures) (sym (turn-ret t _ regs _ heap slots spare (start .pre) sound _ deeper))
+
+pub ret-spec : {M : Type 1} → statement M
+ret-spec =
+    tie.close
+    (tie.spec
+    returns
+    (λ c. search needs)
+    (λ c. search needs)
+    (λ c. search needs)
+    (λ c κs. search needs)
+    returns-2)

@@ -1,0 +1,20 @@
+-- `run::set` meets its contract. Assumes nothing.
+use mathlib.Core.Path.{_≡_, refl, sym}
+use Rattle.run.proofs.Turns.{turn-set}
+use borrow.Author.Needs.{needs}
+use Rattle.run.proofs.set.Statement.{statement}
+use Rattle.run.proofs.set.Tie as tie
+
+returns : tie.Need-returns
+returns c =
+    λ t frames heap slots spare deep sound. rw (c .to .ensures) (sym (turn-set t _ _ frames heap slots spare deep sound _ _))
+
+pub set-spec : {M : Type 1} → statement M
+set-spec =
+    tie.close
+    (tie.spec
+    (λ c. search needs)
+    (λ c. search needs)
+    (λ c. search needs)
+    (λ c κs. search needs)
+    returns)

@@ -1,0 +1,2 @@
+-- A run as its code goes.
+pub mod Loop
