@@ -94,7 +94,9 @@ fn malformed_tables_are_refused() {
         assert_eq!(lent.start(&image), Err(Refusal::Size), "{image:?}");
     };
     // ends that fall, that stop before the entries do, that go past them, and one too many
-    for (firsts, ends, entries) in [(&[1, 1][..], &[2, 1][..], &[0, 0][..]), (&[1], &[1], &[0, 0]), (&[1], &[2], &[0]), (&[1], &[0, 1], &[0])] {
+    for (firsts, ends, entries) in
+        [(&[1, 1][..], &[2, 1][..], &[0, 0][..]), (&[1], &[1], &[0, 0]), (&[1], &[2], &[0]), (&[1], &[0, 1], &[0])]
+    {
         let tables = Tables { firsts, ends, entries };
         refused(tables, Tables::EMPTY, &[]);
         refused(Tables::EMPTY, tables, &[0, 0][..firsts.len()]);
@@ -195,7 +197,8 @@ fn a_refused_call_changes_nothing() {
     calls.push((Refusal::Operand, Box::new(|s, _| s.set_register(32, 1))));
     calls.push((Refusal::Size, Box::new(|s, _| s.reset(&mut []))));
     calls.push((Refusal::Size, Box::new(|s, l| s.run(9, &COUNT, &mut l.frames, &mut []).map(|_| ()))));
-    calls.push((Refusal::NoHalt, Box::new(|s, l| s.run(9, &Image { code: &[60], ..Image::EMPTY }, &mut l.frames, &mut l.heap).map(|_| ()))));
+    calls
+        .push((Refusal::NoHalt, Box::new(|s, l| s.run(9, &Image { code: &[60], ..Image::EMPTY }, &mut l.frames, &mut l.heap).map(|_| ()))));
     calls.push((Refusal::Operand, Box::new(|s, l| s.allocate(Kind::Array, 3, 8, &mut l.heap).map(|_| ()))));
     calls.push((Refusal::Operand, Box::new(|s, l| s.allocate_as(4, 8, 8, &mut l.heap).map(|_| ()))));
     calls.push((Refusal::Memory, Box::new(|s, l| s.allocate(Kind::Array, 8, u64::MAX, &mut l.heap).map(|_| ()))));

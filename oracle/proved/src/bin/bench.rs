@@ -3,6 +3,7 @@ use oracle::image::Image;
 use oracle::machine::{Answer, Call, Lent, Machine};
 use oracle::original::Original;
 use proved::Proved;
+use std::hint::black_box;
 use std::time::Instant;
 
 const REPEATS: usize = 25;
@@ -33,9 +34,13 @@ fn programs() -> Vec<(&'static str, Vec<u64>)> {
     // IAdd r3, r0, r2; IMul r4, r3, r2; ISub r5, r4, r0
     let arithmetic = counted(load_i(2, 3), &[word(0, 3, 0, 2, 0), word(4, 4, 3, 2, 0), word(2, 5, 4, 0, 0)]);
     // IAndI r2, r0, 1; JmpEqI r2, 0, 7; IAddI r3, r3, 1; Jmp 8; 7: IAddI r4, r4, 2
-    let branches = counted(NOP, &[word(11, 2, 0, 0, 1), word(32, 2, 7, 0, 0), word(1, 3, 3, 0, 1), word(29, 0, 8, 0, 0), word(1, 4, 4, 0, 2)]);
+    let branches = counted(
+        NOP,
+        &[word(11, 2, 0, 0, 1), word(32, 2, 7, 0, 0), word(1, 3, 3, 0, 1), word(29, 0, 8, 0, 0), word(1, 4, 4, 0, 2)],
+    );
     // Alloc r2, Record, 8, 64; Store r2, r0, 8; Load r3, r2, 8; IAdd r4, r4, r3; Store r2, r4, 16
-    let memory = counted(word(53, 2, 0, 8, 64), &[word(54, 2, 0, 0, 8), word(55, 3, 2, 0, 8), word(0, 4, 4, 3, 0), word(54, 2, 4, 0, 16)]);
+    let memory =
+        counted(word(53, 2, 0, 8, 64), &[word(54, 2, 0, 0, 8), word(55, 3, 2, 0, 8), word(0, 4, 4, 3, 0), word(54, 2, 4, 0, 16)]);
     // 100 times: r0 = DEEP; Call 8; 8: ISubI r0, r0, 1; JmpEqI r0, 0, 11; Call 8; 11: Ret
     let calls = vec![
         load_i(7, 0),
@@ -55,8 +60,10 @@ fn programs() -> Vec<(&'static str, Vec<u64>)> {
     vec![("integer arithmetic", arithmetic), ("branches", branches), ("calls 10,000 deep", calls), ("loads and stores", memory)]
 }
 
-fn lent(slots: u64) -> Lent {
-    Lent { base: 0x1000_0000, heap: 64 * 4096, frames: 16_384, slots, spare: slots, fill: 0 }
+const BASE: u64 = 0x1000_0000;
+
+fn lent() -> Lent {
+    Lent { base: BASE, heap: 64 * 4096, frames: 16_384, slots: 64, spare: 64, fill: 0 }
 }
 
 /// Nanoseconds of a call, and what it answered.
@@ -76,8 +83,8 @@ fn runs() {
         let call = Call::Run { image: 0, budget: u64::from(u32::MAX) };
         let (mut least, mut count) = ([f64::MAX; 2], 0);
         for _ in 0..REPEATS {
-            let mut original = Original::lend(lent(64)).expect("the heap's addresses");
-            let mut proved = Proved::start(lent(64), &images[0]).ok().expect("an image that loads");
+            let mut original = Original::lend(lent()).expect("the heap's addresses");
+            let mut proved = Proved::start(lent(), &images[0]).ok().expect("an image that loads");
             let (theirs, _) = timed(&mut original, &images, &call);
             let (ours, answer) = timed(&mut proved, &images, &call);
             let Answer::End { number: 0, steps: Some(steps), .. } = answer else { panic!("{name}: {answer:?}") };
@@ -89,41 +96,56 @@ fn runs() {
     }
 }
 
-/// All names once, nanoseconds a name: of the interning, and of the same call refused by 17, which is all its tests and nothing else.
-fn intern<M: Machine>(machine: &mut M, calls: &[Call], refused: &Call) -> [f64; 2] {
-    let mut spent = [0.0; 2];
-    for call in calls {
-        let tests = timed(machine, &[], refused).0;
-        let whole = timed(machine, &[], call).0;
-        spent = [spent[0] + whole, spent[1] + tests];
+/// Nanoseconds a call, of calls made on each machine in turn.
+fn each<M: Machine>(machines: &mut [M], calls: &[Vec<Call>]) -> f64 {
+    let from = Instant::now();
+    for (machine, calls) in machines.iter_mut().zip(calls) {
+        for call in calls {
+            black_box(machine.call(&[], call));
+        }
     }
-    spent.map(|ns| ns / calls.len() as f64)
+    from.elapsed().as_secs_f64() * 1e9 / calls.iter().map(Vec::len).sum::<usize>() as f64
+}
+
+/// 2,000 names, `most` to a machine, new and then again. Nanoseconds a name of the original, of the machine here, and of its tests alone, once
+/// the names are in: a call that passes 10 and 9 and is then refused by 17.
+fn interned(most: usize, slots: u64) -> [[f64; 3]; 2] {
+    let names: Vec<Call> = (0..2000).map(|i| Call::Intern(format!("tier name {i}").into_bytes())).collect();
+    let calls: Vec<Vec<Call>> = names.chunks(most).map(<[Call]>::to_vec).collect();
+    let refused: Vec<Vec<Call>> = calls.iter().map(|c| vec![Call::InternSmall { len: 9, word: 0 }; c.len()]).collect();
+    // the original's heaps stand side by side
+    let pages = 1 + most as u64 / 32;
+    let lent = |i: u64| Lent { base: BASE + i * pages * 4096, heap: pages * 4096, frames: 1, slots, spare: slots, fill: 0 };
+    let machines = || (0..calls.len() as u64).map(lent);
+    let mut least = [[f64::MAX; 3]; 2];
+    for _ in 0..REPEATS {
+        let mut theirs: Vec<_> = machines().map(|l| Original::lend(l).expect("the heap's addresses")).collect();
+        let mut ours: Vec<_> = machines().map(|l| Proved::start(l, &Image::default()).ok().expect("a start")).collect();
+        for least in &mut least {
+            let now = [each(&mut theirs, &calls), each(&mut ours, &calls), each(&mut ours, &refused)];
+            for (least, now) in least.iter_mut().zip(now) {
+                *least = least.min(now);
+            }
+        }
+        for (theirs, ours) in theirs.iter().zip(&ours) {
+            assert_eq!(theirs.view().slots, ours.view().slots);
+        }
+    }
+    least
 }
 
 fn names() {
-    let calls: Vec<Call> = (0..2000).map(|i| Call::Intern(format!("tier name {i}").into_bytes())).collect();
-    // the original is not asked for a refusal: in its place stands setting a register, so that the time of the clock is in both
-    let (refused, nothing) = (Call::InternSmall { len: 9, word: 0 }, Call::SetRegister { register: 0, value: 0 });
-    let mut least = [[f64::MAX; 2]; 4];
-    for _ in 0..REPEATS {
-        let mut original = Original::lend(lent(4096)).expect("the heap's addresses");
-        let mut proved = Proved::start(lent(4096), &Image::default()).ok().expect("an image that loads");
-        let spent = [
-            intern(&mut original, &calls, &nothing),
-            intern(&mut original, &calls, &nothing),
-            intern(&mut proved, &calls, &refused),
-            intern(&mut proved, &calls, &refused),
-        ];
-        assert_eq!(original.view().slots, proved.view().slots);
-        for (least, now) in least.iter_mut().zip(spent) {
-            *least = [least[0].min(now[0]), least[1].min(now[1])];
+    for (most, slots, machines) in [(32, 64, "32 to a machine"), (2000, 4096, "2,000 in one machine")] {
+        let [new, again] = interned(most, slots);
+        let tests = new[2].min(again[2]);
+        for (what, [theirs, ours, _]) in [("a new name", new), ("a name again", again)] {
+            println!("| {what}, {machines} | {theirs:.2} | {ours:.2} | |");
+            // of many slots the tests are nearly all of the time, and nothing is told by a difference
+            if most == 32 {
+                row(&format!("{what}, {machines}, less the tests"), theirs, ours - tests);
+            }
         }
-    }
-    // no ratio is made of the difference: it is a few hundredths of either number
-    let [new, again, our_new, our_again] = least;
-    for (what, theirs, ours) in [("a new name of 2,000", new, our_new), ("a name of 2,000 again", again, our_again)] {
-        println!("| {what}, tests of 10 and 9 included | {:.0} | {:.0} | |", theirs[0] - theirs[1], ours[0]);
-        println!("| the tests alone | | {:.0} | |", ours[1]);
+        println!("| the tests of an interning, {slots} slots with {most} names | | {tests:.2} | |");
     }
 }
 
