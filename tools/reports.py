@@ -1,7 +1,6 @@
 """The runner's report, read back: document 01, 'It runs from pc 0 and prints'."""
 
-import re
-import struct
+import literals
 
 
 def read(answer):
@@ -26,7 +25,8 @@ def differs(gives, answer):
     wanted = {"end": int(end)}
     for field in fields:
         name, value = field.split("=")
-        wanted[name] = number(value)
+        # with the usual base
+        wanted[name] = literals.number(value, 0x10000) % 2**64
     if (len(found) == 1) != (int(end) > 8 or "refused" in wanted):
         return f"{'a refusal' if len(found) == 1 else 'a report'}, and it gives {gives}"
     wanted.pop("refused", None)
@@ -34,12 +34,3 @@ def differs(gives, answer):
         if found.get(name) != value:
             return f"{name} is {found.get(name)}, and it gives {gives}"
     return None
-
-
-def number(value):
-    """Decimal, 0x.., a double as 1.5f64, or base+N with the usual base."""
-    if re.fullmatch(r"base(\+\d+)?", value):
-        return 0x10000 + int(value[5:] or "0")
-    if value.endswith("f64"):
-        return struct.unpack(">Q", struct.pack(">d", float(value[:-3])))[0]
-    return int(value, 0) % 2**64
