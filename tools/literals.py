@@ -14,7 +14,7 @@ def integer(token):
 
 
 def number(token, base=None):
-    """An integer, the pattern of a double such as 1.5f64, or where the heap's base is known `base` or `base+16`; None where it is none of these."""
+    """An integer, the pattern of a double such as 1.5f64, or, where the heap's base is known, `base` or `base+16`; else None."""
     if re.fullmatch(r"-?\d+(\.\d+)?([eE][-+]?\d+)?f64", token):
         return struct.unpack(">Q", struct.pack(">d", float(token[:-3])))[0]
     if base is not None and re.fullmatch(r"base(\+\d+)?", token):

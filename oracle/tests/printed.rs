@@ -1,5 +1,5 @@
-//! What the programs host_calls, known_answers and examples/c/rate.c print, worked out again: by the model, and by the original wherever it can be
-//! asked. Their stored outputs must be that.
+//! What the programs host_calls, known_answers and examples/c/rate.c print, worked out again: by the model, and by the original wherever
+//! it can be asked. Their stored outputs must be that.
 use oracle::compare::{Ask, Compared};
 use oracle::image::{Image, Switch};
 use oracle::machine::{Answer, Call, Field, Lent, Machine};

@@ -186,21 +186,19 @@ static void limits(void)
 
 static const uint64_t list[4];
 
-/* the same tables lent as those of Switch and as those of Lookup, so many of each list */
-static void tables(uint64_t wanted, size_t firsts, const uint64_t *at, size_t ends_len, size_t entries, size_t defaults)
+/* the same tables lent as those of Switch and as those of Lookup, so many of each list, to a start and to a run */
+static void tables(uint64_t wanted, size_t firsts, const uint64_t *at, size_t n, size_t entries, size_t defaults)
 {
     uint64_t state[WORDS] = {0};
-    EXPECT(wanted, girzhanok_start(state, WORDS, BASE, halt, 1, NONE, list, firsts, at, ends_len, list, entries, NONE, NONE, NONE, NONE, FRAMES, HEAP,
-                                   SLOTS, SPARE));
-    EXPECT(wanted, girzhanok_start(state, WORDS, BASE, halt, 1, NONE, NONE, NONE, NONE, list, firsts, at, ends_len, list, entries, list, defaults,
+    EXPECT(wanted, girzhanok_start(state, WORDS, BASE, halt, 1, NONE, list, firsts, at, n, list, entries, NONE, NONE, NONE, NONE,
                                    FRAMES, HEAP, SLOTS, SPARE));
-    if (wanted == 0)
-        return;
+    EXPECT(wanted, girzhanok_start(state, WORDS, BASE, halt, 1, NONE, NONE, NONE, NONE, list, firsts, at, n, list, entries, list, defaults,
+                                   FRAMES, HEAP, SLOTS, SPARE));
     EXPECT(0, girzhanok_start(state, WORDS, BASE, halt, 1, NONE, NO_TABLES, FRAMES, HEAP, SLOTS, SPARE));
-    EXPECT(wanted, girzhanok_run(state, WORDS, 9, halt, 1, NONE, list, firsts, at, ends_len, list, entries, NONE, NONE, NONE, NONE, FRAMES, HEAP,
-                                 &l.pc, &l.steps));
-    EXPECT(wanted, girzhanok_run(state, WORDS, 9, halt, 1, NONE, NONE, NONE, NONE, list, firsts, at, ends_len, list, entries, list, defaults, FRAMES,
-                                 HEAP, &l.pc, &l.steps));
+    EXPECT(wanted, girzhanok_run(state, WORDS, 9, halt, 1, NONE, list, firsts, at, n, list, entries, NONE, NONE, NONE, NONE,
+                                 FRAMES, HEAP, &l.pc, &l.steps));
+    EXPECT(wanted, girzhanok_run(state, WORDS, 9, halt, 1, NONE, NONE, NONE, NONE, list, firsts, at, n, list, entries, list, defaults,
+                                 FRAMES, HEAP, &l.pc, &l.steps));
 }
 
 static void malformed_tables(void)
@@ -220,10 +218,10 @@ static void malformed_tables(void)
     tables(GIRZHANOK_SIZE, 3, rising, 2, 3, 3);
     /* defaults too few, and without a table */
     uint64_t state[WORDS] = {0};
-    EXPECT(GIRZHANOK_SIZE, girzhanok_start(state, WORDS, BASE, halt, 1, NONE, NONE, NONE, NONE, list, 2, rising, 2, list, 3, list, 1, FRAMES, HEAP,
-                                           SLOTS, SPARE));
-    EXPECT(GIRZHANOK_SIZE, girzhanok_start(state, WORDS, BASE, halt, 1, NONE, NONE, NONE, NONE, NONE, NONE, NONE, list, 1, FRAMES, HEAP, SLOTS,
-                                           SPARE));
+    EXPECT(GIRZHANOK_SIZE, girzhanok_start(state, WORDS, BASE, halt, 1, NONE, NONE, NONE, NONE, list, 2, rising, 2, list, 3, list, 1,
+                                           FRAMES, HEAP, SLOTS, SPARE));
+    EXPECT(GIRZHANOK_SIZE, girzhanok_start(state, WORDS, BASE, halt, 1, NONE, NONE, NONE, NONE, NONE, NONE, NONE, list, 1,
+                                           FRAMES, HEAP, SLOTS, SPARE));
 }
 
 int main(void)

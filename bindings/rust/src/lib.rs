@@ -230,8 +230,8 @@ impl State {
         done(unsafe { ffi::girzhanok_set_register(self.words.as_mut_ptr(), STATE_WORDS, number, value) })
     }
 
-    /// The address of a new block of `size` bytes; `align` is 1, 2, 4 or 8, and every block lies at a multiple of 8. Its bytes are not cleared, but
-    /// a page is zero when it is pushed.
+    /// The address of a new block of `size` bytes; `align` is 1, 2, 4 or 8, and every block lies at a multiple of 8. Its bytes are not
+    /// cleared, but a page is zero when it is pushed.
     ///
     /// Refused by `Size`, `Operand`, `State`, `Memory`.
     pub fn allocate(&mut self, kind: Kind, align: usize, size: u64, heap: &mut [u8]) -> Result<u64, Refusal> {
