@@ -20,8 +20,8 @@
  *   girzhanok_set_register   for what is known of the sale; registers keep what the last run left in them
  *   girzhanok_run
  *
- * Nothing is ever freed: blocks, options and names stay until a new start empties the heap. Every run tests the whole image and the frames in
- * use before its first step, and every interning all active slots, so neither costs only what it does.
+ * Nothing is ever freed: blocks, options and names stay until a new start empties the heap. What a call costs: every run first tests the
+ * whole image and the frames in use, however short it is, and every interning all active slots, also of a name that is known.
  */
 #ifndef GIRZHANOK_H
 #define GIRZHANOK_H

@@ -25,8 +25,7 @@ def differs(gives, answer):
     wanted = {"end": int(end)}
     for field in fields:
         name, value = field.split("=")
-        # with the usual base
-        wanted[name] = literals.number(value, 0x10000) % 2**64
+        wanted[name] = number(value)
     if (len(found) == 1) != (int(end) > 8 or "refused" in wanted):
         return f"{'a refusal' if len(found) == 1 else 'a report'}, and it gives {gives}"
     wanted.pop("refused", None)
@@ -34,3 +33,11 @@ def differs(gives, answer):
         if found.get(name) != value:
             return f"{name} is {found.get(name)}, and it gives {gives}"
     return None
+
+
+def number(token):
+    """With the usual base."""
+    value = literals.number(token, 0x10000)
+    if value is None:
+        raise literals.Wrong(f"no number: {token}")
+    return value % 2**64

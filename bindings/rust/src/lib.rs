@@ -4,8 +4,8 @@
 //! whole and as the last call left them. Whatever is lent, a call returns: it is done, it ends a run, or it is refused by a number, and
 //! then nothing is changed.
 //!
-//! A terminal starts a machine once and interns the names that its rules know. Then, for each sale: [`State::reset`], since a run that stopped
-//! inside a function has left its depth; [`State::set_pc`]; [`State::set_register`]; [`State::run`].
+//! A terminal starts a machine once and interns the names that its rules know. Then, for each sale: [`State::reset`], since a run that
+//! stopped inside a function has left its depth; [`State::set_pc`]; [`State::set_register`]; [`State::run`].
 //!
 //! ```
 //! use girzhanok::{End, Image, State};
@@ -27,8 +27,8 @@
 //! # Ok::<(), girzhanok::Refusal>(())
 //! ```
 //!
-//! Nothing is ever freed: blocks, options and names stay until a new start empties the heap. Every run tests the whole image and the frames in
-//! use before its first step, and every interning all active slots, so neither costs only what it does.
+//! Nothing is ever freed: blocks, options and names stay until a new start empties the heap. What a call costs: every run first tests the
+//! whole image and the frames in use, however short it is, and every interning all active slots, also of a name that is known.
 //!
 //! Memory safety rests on the borrow rules, which keep the lent buffers apart, and on the library's proof, which keeps every access
 //! inside them.
