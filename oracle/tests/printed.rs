@@ -1,9 +1,10 @@
 //! What the programs host_calls, known_answers and examples/c/rate.c print, worked out again: by the model, and by the original wherever
 //! it can be asked. Their stored outputs must be that.
 use oracle::compare::{Ask, Compared};
+use oracle::generate::program::word;
 use oracle::image::{Image, Switch};
 use oracle::machine::{Answer, Call, Field, Lent, Machine};
-use oracle::model::word::{self, Counts};
+use oracle::model::word::{Counts, op, refusal};
 use oracle::model::{self, Model};
 use oracle::original::Original;
 use purple_garden_runtime::Value;
@@ -164,6 +165,17 @@ fn host_calls() {
     assert_eq!(out, stored("crates/host_calls/stdout"));
 }
 
+/// What an instruction of two registers gives, or the number that it ends the run with.
+fn computed(opcode: u8, lhs: i64, rhs: i64) -> u64 {
+    let mut both = Both::start();
+    for (register, value) in [(0, lhs), (1, rhs)] {
+        both.call(&[], &Call::SetRegister { register, value: value as u64 });
+    }
+    let Answer::End { number, .. } = both.run(&[word(opcode, 2, 0, 1, 0), 59], 10) else { panic!("a run") };
+    assert_eq!(both.agreed, if number == 7 { 2 } else { 3 });
+    if number == 0 { both.model.state.regs[2] } else { number.into() }
+}
+
 #[test]
 fn known_answers() {
     let _one = one();
@@ -176,13 +188,12 @@ fn known_answers() {
     line("hash of 0123456789", string::hash(b"0123456789").into());
     line("small hash of nothing", string::small_hash(0, 0).into());
     line("small hash of a", string::small_hash(1, 97).into());
-    // Rust's own division; the ends are the paper's
-    let least = i64::MIN;
-    line("-7 by 2", (-7_i64 / 2) as u64);
-    line("-7 by 2, rest", (-7_i64 % 2) as u64);
-    line("7 by 0", 7_i64.checked_div(0).map_or(1, |q| q as u64));
-    line("-2^63 by -1", least.checked_div(-1).map_or(7, |q| q as u64));
-    line("(2^63 + 1) squared", (least + 1).wrapping_mul(least + 1) as u64);
+    // by the original but for the overflow, which panics there
+    line("-7 by 2", computed(op::IDiv, -7, 2));
+    line("-7 by 2, rest", computed(op::IMod, -7, 2));
+    line("7 by 0", computed(op::IDiv, 7, 0));
+    line("-2^63 by -1", computed(op::IDiv, i64::MIN, -1));
+    line("(2^63 + 1) squared", computed(op::IMul, i64::MIN + 1, i64::MIN + 1));
     // value/mod.rs, unchanged
     line("2^53 + 1 to double", Value((1 << 53) + 1).int_to_f64().0);
     line("2^53 + 3 to double", Value((1 << 53) + 3).int_to_f64().0);
@@ -227,7 +238,7 @@ fn known_answers() {
         ("register 32", 0x2000),
         ("an align of 16", 0x0000_0020_1003_0435),
     ] {
-        line(label, word::refusal(of, any).unwrap_or(0).into());
+        line(label, refusal(of, any).unwrap_or(0).into());
     }
     assert_eq!(out, stored("crates/known_answers/stdout"));
 }
