@@ -12,6 +12,16 @@
  *
  * A machine is its state and four buffers, frames, heap, slots and spare, which the caller keeps and lends to each call whole and as the
  * last call left them. The address of a heap byte is B, the base given to the start, plus its place: it is a number, and no pointer.
+ *
+ * A terminal starts a machine once and interns the names that its rules know. Then, for each sale:
+ *
+ *   girzhanok_reset          a run that stopped inside a function has left its depth
+ *   girzhanok_set_pc         to 0, or where the rule begins
+ *   girzhanok_set_register   for what is known of the sale; registers keep what the last run left in them
+ *   girzhanok_run
+ *
+ * Nothing is ever freed: blocks, options and names stay until a new start empties the heap. What a call costs: every run first tests the
+ * whole image and the frames in use, however short it is, and every interning all active slots, also of a name that is known.
  */
 #ifndef GIRZHANOK_H
 #define GIRZHANOK_H
@@ -52,10 +62,18 @@ extern "C" {
 #define GIRZHANOK_WORD_ACTIVE 38        /* slots in use */
 #define GIRZHANOK_WORD_NAMES 39         /* names interned */
 
+/* ---- the kinds of blocks */
+
+#define GIRZHANOK_KIND_RECORD 0
+#define GIRZHANOK_KIND_ARRAY 1
+#define GIRZHANOK_KIND_OPTION 2
+#define GIRZHANOK_KIND_STRING 3
+
 /* ---- the numbers that calls return */
 
 enum {
-    /* done; of a run: at a Halt, or nothing to run */
+    /* done; of a run: at a Halt, whose place is then the stored pc, so that another run does that Halt again; or nothing to run, where the
+     * code is empty or the stored pc past its end */
     GIRZHANOK_HALT = 0,
 
     /* ends of a run, with pc and steps: the state is that before the instruction at pc, and the stored pc that before the run */
@@ -71,10 +89,11 @@ enum {
     /* refusals: nothing that was lent is changed, and nothing is answered but the number */
     GIRZHANOK_MEMORY = 2,               /* the heap has no room for the allocation */
     GIRZHANOK_STATE = 9,                /* a state that cannot belong to the buffers */
-    GIRZHANOK_SIZE = 10,                /* a size or the base outside the limits, or too few words of a state */
-    GIRZHANOK_NO_HALT = 11,             /* code that does not end in a Halt */
-    GIRZHANOK_OPCODE = 12,
-    GIRZHANOK_OPERAND = 13,             /* a register above 31, a kind, an alignment, or an unused byte */
+    GIRZHANOK_SIZE = 10,                /* a size or the base outside the limits, too few words of a state, ends of tables that do not rise from
+                                         * 0 to the number of entries, or not as many ends, or defaults, as first keys */
+    GIRZHANOK_NO_HALT = 11,             /* code whose last word has another byte 0 than 59; empty code is taken */
+    GIRZHANOK_OPCODE = 12,              /* 40 to 49, or above 60 */
+    GIRZHANOK_OPERAND = 13,             /* a register above 31, a kind, an alignment, or an unused byte that is not zero */
     GIRZHANOK_TARGET = 14,              /* a jump or a function past the code */
     GIRZHANOK_INDEX = 15,               /* a global or a table past its count */
     GIRZHANOK_TABLE_TARGET = 16,        /* a table's target past the code */
@@ -94,7 +113,8 @@ enum {
  *   defaults         of each Lookup table its default
  */
 
-/* Starts a machine with an empty heap at `base`. Writes the state, frame 0 and page 0 of the heap; of slots and spare it reads the sizes.
+/* Starts a machine with an empty heap at `base`: registers 0, pc 0, depth 1, no name. Writes the state, frame 0 and page 0 of the heap; of slots
+ * and spare it reads the sizes. No buffer need be cleared before.
  * Refusals: SIZE, NO_HALT, TABLE_TARGET, then word by word OPCODE, OPERAND, TARGET, INDEX. */
 uint64_t girzhanok_start(uint64_t *state, size_t state_len, uint64_t base,
                          const uint64_t *code, size_t code_len,
@@ -111,8 +131,8 @@ uint64_t girzhanok_start(uint64_t *state, size_t state_len, uint64_t base,
                          const uint64_t *slots, size_t slots_len,
                          const uint64_t *spare, size_t spare_len);
 
-/* Runs the image from the stored pc on, `budget` instructions at most. Writes the state, frames, the pushed pages of the heap, and unless it
- * is refused `pc` and `steps`, the instructions completed. Ends 0 to 8; refusals as of a start, then STATE. */
+/* Runs the image from the stored pc on, `budget` instructions at most; it need not be the image of the start. Unless refused, writes the state,
+ * frames, the pushed pages of the heap, `pc`, and to `steps` the instructions completed. Ends 0 to 8; refusals as of a start, then STATE. */
 uint64_t girzhanok_run(uint64_t *state, size_t state_len, uint32_t budget,
                        const uint64_t *code, size_t code_len,
                        const uint64_t *globals, size_t globals_len,
@@ -127,27 +147,30 @@ uint64_t girzhanok_run(uint64_t *state, size_t state_len, uint32_t budget,
                        uint8_t *heap, size_t heap_len,
                        size_t *pc, uint32_t *steps);
 
-/* Back to before the first run: pc 2^64-1, depth 1, frame 0. Registers, heap and names stay. Writes the state and frame 0.
- * Refusals: SIZE. */
+/* Sets pc and frame 0 to 2^64-1 and the depth to 1; a run from there has nothing to run: set the pc first. Registers, heap and names stay.
+ * Writes the state and frame 0. Refusals: SIZE. */
 uint64_t girzhanok_reset(uint64_t *state, size_t state_len, uint64_t *frames, size_t frames_len);
 
-/* Writes the state. Refusals: SIZE, where it has too few words. */
+/* Sets the stored pc, where the next run begins; any place is taken. Writes the state. Refusals: SIZE, where it has too few words. */
 uint64_t girzhanok_set_pc(uint64_t *state, size_t state_len, size_t pc);
 
-/* Writes the state. Refusals: SIZE, where it has too few words; OPERAND, where the number of the register is above 31. */
+/* Sets a register. Writes the state. Refusals: SIZE, where it has too few words; OPERAND, where the number of the register is above 31. */
 uint64_t girzhanok_set_register(uint64_t *state, size_t state_len, size_t number, uint64_t value);
 
-/* A block of `size` bytes. Kinds: 0 a record, 1 an array, 2 an option, 3 a string; the alignment is 1, 2, 4 or 8. Writes the state, the
- * pushed pages of the heap, and to `value` the block's address. Refusals: SIZE, OPERAND, STATE, MEMORY. */
+/* A block of `size` bytes and one of the kinds above; the alignment is 1, 2, 4 or 8, and every block lies at a multiple of 8. Its bytes are not
+ * cleared, but a page is zero when it is pushed. Writes the state, the pushed pages of the heap, and to `value` the block's address.
+ * Refusals: SIZE, OPERAND, STATE, MEMORY. */
 uint64_t girzhanok_allocate(uint64_t *state, size_t state_len, uint64_t kind, size_t align, uint64_t size,
                             uint8_t *heap, size_t heap_len, uint64_t *value);
 
-/* An option of `payload`, or of none, where `payload` is not looked at. Writes the state, the pushed pages of the heap, and to `value` the
- * option's address. Refusals: SIZE, STATE, MEMORY. */
+/* An option of `payload`: a new block that holds 1 and the payload, 8 bytes each, lowest byte first. Or of none, where `payload` is not looked
+ * at: the start made it, [0, 0] at B+16. Writes the state, the pushed pages of the heap, and to `value` the option's address.
+ * Refusals: SIZE, STATE, MEMORY. */
 uint64_t girzhanok_option(uint64_t *state, size_t state_len, bool some, uint64_t payload,
                           uint8_t *heap, size_t heap_len, uint64_t *value);
 
-/* The one address of a name. Writes the state, the pushed pages of the heap, the slots in use, where their number grows the spare ones, and
+/* The one address of a name. Its block holds the length, 4 bytes, the hash, 4 bytes, and the name's bytes. A known name is answered even where
+ * slots or heap are full. Writes the state, the pushed pages of the heap, the slots in use, where their number grows the spare ones, and
  * to `value` the address. Refusals: SIZE, STATE, TABLE_FULL, MEMORY. */
 uint64_t girzhanok_intern(uint64_t *state, size_t state_len, const uint8_t *name, size_t name_len,
                           uint8_t *heap, size_t heap_len, uint64_t *slots, size_t slots_len, uint64_t *spare, size_t spare_len,

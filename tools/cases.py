@@ -1,35 +1,23 @@
 """The cases of vectors/*.txt. vectors/README.md says how they are written."""
 
-import importlib.machinery
-import importlib.util
 import pathlib
 import re
 import shlex
 
 import image as images
+from literals import Wrong, unescaped
+from scripts import script
 
-HERE = pathlib.Path(__file__).resolve().parent
-FOLDER = HERE.parent / "vectors"
+FOLDER = pathlib.Path(__file__).resolve().parent.parent / "vectors"
 # The subjects in their order: a file each.
 SUBJECTS = "corners instructions doubles tables heap names ends budgets refusals limits text programs".split()
 # What a listing need not say.
 DEFAULTS = {"base": "0x10000", "pages": "1", "frames": "4", "slots": "64", "budget": "100"}
 
 
-class Wrong(Exception):
-    """An error in a file of cases."""
-
-
 class Case:
     def __init__(self, subject, name, shows, gives, input):
         self.subject, self.name, self.shows, self.gives, self.input = subject, name, shows, gives, input
-
-
-def script(name):
-    loader = importlib.machinery.SourceFileLoader(name, str(HERE / name))
-    module = importlib.util.module_from_spec(importlib.util.spec_from_loader(name, loader))
-    loader.exec_module(module)
-    return module
 
 
 asm = script("asm")
@@ -55,7 +43,7 @@ def of(subject, text):
     for block in blocks:
         try:
             found += cases(subject, block)
-        except (Wrong, asm.Wrong) as error:
+        except Wrong as error:
             raise Wrong(f"{subject}.txt: {block.split()[0]}: {error}") from None
     return found
 
@@ -133,14 +121,7 @@ def raw(line):
     and [N DIGITS] is those digits N times."""
     times, text = re.fullmatch(r"(\d*)> ?(.*)", line).groups()
     text = re.sub(r"\[(\d+) (\S+?)\]", lambda m: m[2] * int(m[1]), text)
-    out = b""
-    for escape, char in re.findall(r"\\(x[0-9a-fA-F]{2}|.)|(.)", text):
-        if escape and escape[0] == "x" and len(escape) == 3:
-            out += bytes([int(escape[1:], 16)])
-        elif escape and escape not in ESCAPES:
-            raise Wrong(f"no such escape: \\{escape}")
-        else:
-            out += ESCAPES[escape] if escape else char.encode()
+    out = unescaped(text, ESCAPES)
     if not text.endswith("\\c"):
         out += b"\n"
     return out * int(times or 1)

@@ -7,7 +7,7 @@ A word is 64 bits, byte 0 lowest (document 01, 'Instruction and image'):
                            target (2-3)                       a second register is then byte 4
                                            imm, value, idx, func, size, offset, table
 
-Operands are written in the order of their bytes.
+Operands are written in the order of their bytes, and named as in op.rs. docs/LISTING.md says what each instruction does.
 """
 
 # What stands where: first byte, how many bytes, what it is.
@@ -37,69 +37,95 @@ KINDS = {
 
 ALIGNS = [1, 2, 4, 8]
 
+# The operands of an instruction as they are written, and the fields that they go to.
+FORMATS = {
+    "": "",
+    "cond": "r1",
+    "dst src": "r1 r2",
+    "dst lhs rhs": "r1 r2 r3",
+    "dst lhs imm": "r1 r2 imm",
+    "dst value": "r1 imm",
+    "dst idx": "r1 global",
+    "target": "target",
+    "cond target": "r1 target",
+    "lhs target imm": "r1 target imm",
+    "lhs target rhs": "r1 target r4",
+    "kind subject table": "kind1 r2 switch",
+    "dst subject kind table": "r1 r2 kind3 lookup",
+    "func": "func",
+    "dst kind align size": "r1 alloc2 align3 size",
+    "base src offset": "r1 r2 size",
+    "dst base offset": "r1 r2 size",
+}
+
 # Opcode, name as in op.rs, operands. 40 to 49 are not carried.
 TABLE = [
-    (0, "IAdd", "r1 r2 r3"),
-    (1, "IAddI", "r1 r2 imm"),
-    (2, "ISub", "r1 r2 r3"),
-    (3, "ISubI", "r1 r2 imm"),
-    (4, "IMul", "r1 r2 r3"),
-    (5, "IMulI", "r1 r2 imm"),
-    (6, "IDiv", "r1 r2 r3"),
-    (7, "IDivI", "r1 r2 imm"),
-    (8, "IMod", "r1 r2 r3"),
-    (9, "IModI", "r1 r2 imm"),
-    (10, "IAnd", "r1 r2 r3"),
-    (11, "IAndI", "r1 r2 imm"),
-    (12, "ILt", "r1 r2 r3"),
-    (13, "IGt", "r1 r2 r3"),
-    (14, "IEq", "r1 r2 r3"),
-    (15, "IEqI", "r1 r2 imm"),
-    (16, "IGtI", "r1 r2 imm"),
-    (17, "ILtI", "r1 r2 imm"),
-    (18, "DAdd", "r1 r2 r3"),
-    (19, "DSub", "r1 r2 r3"),
-    (20, "DMul", "r1 r2 r3"),
-    (21, "DDiv", "r1 r2 r3"),
-    (22, "DLt", "r1 r2 r3"),
-    (23, "DGt", "r1 r2 r3"),
-    (24, "BEq", "r1 r2 r3"),
-    (25, "SEq", "r1 r2 r3"),
-    (26, "Mov", "r1 r2"),
-    (27, "LoadI", "r1 imm"),
-    (28, "LoadG", "r1 global"),
+    (0, "IAdd", "dst lhs rhs"),
+    (1, "IAddI", "dst lhs imm"),
+    (2, "ISub", "dst lhs rhs"),
+    (3, "ISubI", "dst lhs imm"),
+    (4, "IMul", "dst lhs rhs"),
+    (5, "IMulI", "dst lhs imm"),
+    (6, "IDiv", "dst lhs rhs"),
+    (7, "IDivI", "dst lhs imm"),
+    (8, "IMod", "dst lhs rhs"),
+    (9, "IModI", "dst lhs imm"),
+    (10, "IAnd", "dst lhs rhs"),
+    (11, "IAndI", "dst lhs imm"),
+    (12, "ILt", "dst lhs rhs"),
+    (13, "IGt", "dst lhs rhs"),
+    (14, "IEq", "dst lhs rhs"),
+    (15, "IEqI", "dst lhs imm"),
+    (16, "IGtI", "dst lhs imm"),
+    (17, "ILtI", "dst lhs imm"),
+    (18, "DAdd", "dst lhs rhs"),
+    (19, "DSub", "dst lhs rhs"),
+    (20, "DMul", "dst lhs rhs"),
+    (21, "DDiv", "dst lhs rhs"),
+    (22, "DLt", "dst lhs rhs"),
+    (23, "DGt", "dst lhs rhs"),
+    (24, "BEq", "dst lhs rhs"),
+    (25, "SEq", "dst lhs rhs"),
+    (26, "Mov", "dst src"),
+    (27, "LoadI", "dst value"),
+    (28, "LoadG", "dst idx"),
     (29, "Jmp", "target"),
-    (30, "JmpT", "r1 target"),
-    (31, "JmpF", "r1 target"),
-    (32, "JmpEqI", "r1 target imm"),
-    (33, "JmpNeI", "r1 target imm"),
-    (34, "JmpSEq", "r1 target r4"),
-    (35, "JmpSNe", "r1 target r4"),
-    (36, "Switch", "kind1 r2 switch"),
-    (37, "Lookup", "r1 r2 kind3 lookup"),
+    (30, "JmpT", "cond target"),
+    (31, "JmpF", "cond target"),
+    (32, "JmpEqI", "lhs target imm"),
+    (33, "JmpNeI", "lhs target imm"),
+    (34, "JmpSEq", "lhs target rhs"),
+    (35, "JmpSNe", "lhs target rhs"),
+    (36, "Switch", "kind subject table"),
+    (37, "Lookup", "dst subject kind table"),
     (38, "Tail", "func"),
     (39, "Call", "func"),
-    (50, "CastToInt", "r1 r2"),
-    (51, "CastToDouble", "r1 r2"),
-    (52, "CastToBool", "r1 r2"),
-    (53, "Alloc", "r1 alloc2 align3 size"),
-    (54, "Store", "r1 r2 size"),
-    (55, "Load", "r1 r2 size"),
-    (56, "AddrOf", "r1 r2 size"),
+    (50, "CastToInt", "dst src"),
+    (51, "CastToDouble", "dst src"),
+    (52, "CastToBool", "dst src"),
+    (53, "Alloc", "dst kind align size"),
+    (54, "Store", "base src offset"),
+    (55, "Load", "dst base offset"),
+    (56, "AddrOf", "dst base offset"),
     (57, "Ret", ""),
-    (58, "Assert", "r1"),
+    (58, "Assert", "cond"),
     (59, "Halt", ""),
     (60, "Nop", ""),
 ]
 
-BY_NAME = {name: (opcode, operands.split()) for opcode, name, operands in TABLE}
-BY_OPCODE = {opcode: (name, operands.split()) for opcode, name, operands in TABLE}
+
+def fields(operands):
+    return FORMATS[operands].split()
 
 
-def pack(opcode, operands, values):
-    """The word of an instruction whose operands have these values; a signed one may be negative."""
+BY_NAME = {name: (opcode, operands.split(), fields(operands)) for opcode, name, operands in TABLE}
+BY_OPCODE = {opcode: (name, fields(operands)) for opcode, name, operands in TABLE}
+
+
+def pack(opcode, fields, values):
+    """The word of an instruction whose fields have these values; a signed one may be negative."""
     word = opcode
-    for field, value in zip(operands, values):
+    for field, value in zip(fields, values):
         first, size, _ = FIELDS[field]
         word |= value % 2 ** (8 * size) << 8 * first
     return word
@@ -110,9 +136,9 @@ def unpack(word):
     row = BY_OPCODE.get(word % 256)
     if row is None:
         return None
-    name, operands = row
+    name, fields = row
     values = []
-    for field in operands:
+    for field in fields:
         first, size, what = FIELDS[field]
         value = (word >> 8 * first) % 2 ** (8 * size)
         if what == "signed" and value >= 2 ** 31:
@@ -121,7 +147,7 @@ def unpack(word):
             return None
         values.append((field, value))
     # an unused byte that is not zero
-    if pack(word % 256, operands, [value for _, value in values]) != word:
+    if pack(word % 256, fields, [value for _, value in values]) != word:
         return None
     return name, values
 

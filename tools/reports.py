@@ -1,7 +1,6 @@
 """The runner's report, read back: document 01, 'It runs from pc 0 and prints'."""
 
-import re
-import struct
+import literals
 
 
 def read(answer):
@@ -36,10 +35,9 @@ def differs(gives, answer):
     return None
 
 
-def number(value):
-    """Decimal, 0x.., a double as 1.5f64, or base+N with the usual base."""
-    if re.fullmatch(r"base(\+\d+)?", value):
-        return 0x10000 + int(value[5:] or "0")
-    if value.endswith("f64"):
-        return struct.unpack(">Q", struct.pack(">d", float(value[:-3])))[0]
-    return int(value, 0) % 2**64
+def number(token):
+    """With the usual base."""
+    value = literals.number(token, 0x10000)
+    if value is None:
+        raise literals.Wrong(f"no number: {token}")
+    return value % 2**64

@@ -46,7 +46,9 @@ static int rate(uint64_t cents, const char *tier)
     uint64_t value;
     size_t pc;
     uint32_t steps;
-    if (name(tier, &value) || failed("set_pc", girzhanok_set_pc(state, GIRZHANOK_STATE_WORDS, 0))
+    /* for each sale: reset, as a run that stopped inside a function has left its depth, then the pc, what is known of the sale, and the run */
+    if (name(tier, &value) || failed("reset", girzhanok_reset(state, GIRZHANOK_STATE_WORDS, frames, FRAMES))
+        || failed("set_pc", girzhanok_set_pc(state, GIRZHANOK_STATE_WORDS, 0))
         || failed("set_register", girzhanok_set_register(state, GIRZHANOK_STATE_WORDS, 0, cents))
         || failed("set_register", girzhanok_set_register(state, GIRZHANOK_STATE_WORDS, 1, value)))
         return 1;

@@ -1,5 +1,5 @@
 //! Document 01, 'Its written conditions': what the original is asked, and what it is not.
-use crate::anomaly::{ADDRESS, ALLOCATION_REFUSED, QUOTIENT_OVERFLOW, RET_AT_DEPTH_0, SPENT};
+use crate::anomaly::{ALLOCATION_FAILED, BAD_ADDRESS, BUDGET, FRAME_UNDERFLOW, QUOTIENT_OVERFLOW};
 use crate::compare::{Aside, Ask, Compared};
 use crate::machine::{Answer, Call};
 use crate::model::{Condition, Model};
@@ -26,10 +26,10 @@ impl Compared for Original {
         }
         match answer {
             // `try_alloc` says so where the heap cannot hold a block, for sizes that a `Layout` takes
-            Answer::Refused(ALLOCATION_REFUSED) if matches!(call, Call::Allocate { size, .. } if *size < 1 << 40) => Ask::Make,
+            Answer::Refused(ALLOCATION_FAILED) if matches!(call, Call::Allocate { size, .. } if *size < 1 << 40) => Ask::Make,
             Answer::Refused(_) => Ask::PassOver,
             Answer::End { number, .. }
-                if [ALLOCATION_REFUSED, SPENT, ADDRESS, QUOTIENT_OVERFLOW, RET_AT_DEPTH_0].contains(&number) =>
+                if [ALLOCATION_FAILED, BUDGET, BAD_ADDRESS, QUOTIENT_OVERFLOW, FRAME_UNDERFLOW].contains(&number) =>
             {
                 Ask::SetAside(Aside::End(number))
             }

@@ -1,5 +1,5 @@
 //! `oracle report FILE`, `oracle rust FILE`, `oracle compare --cases N --seed S`.
-use oracle::compare::{Counts, Outcome, compare};
+use oracle::compare::{Aside, Counts, Outcome, compare};
 use oracle::comparison::comparison;
 use oracle::machine::{Answer, Call, Machine};
 use oracle::model::Model;
@@ -10,10 +10,14 @@ use std::process::ExitCode;
 
 const USAGE: &str = "\
 oracle report FILE        the image runner's report, by the model
-oracle rust FILE          the same by the original; 3 where its conditions are not kept
+oracle rust FILE          the same by the original; status 3 where its conditions are not kept, 4 where the system does not
+                          give the heap's addresses
 oracle compare [--cases N] [--seed S] [--from I]
                           generated cases, the model and the original side by side
 FILE is an image's text, - for standard input";
+
+const ASIDE: u8 = 3;
+const NOT_MAPPED: u8 = 4;
 
 fn main() -> ExitCode {
     let args: Vec<String> = std::env::args().skip(1).collect();
@@ -44,16 +48,16 @@ fn input(file: &str) -> Option<Vec<u8>> {
 
 /// The report, by the original alone but for the steps, which it does not count.
 fn by_the_original(input: &[u8]) -> ExitCode {
-    let aside = |why: &dyn Display| {
+    let not_run = |why: &dyn Display, status: u8| {
         eprintln!("oracle: not run in the Rust: {why}");
-        ExitCode::from(3)
+        ExitCode::from(status)
     };
     let Some(case) = text::case(input) else {
-        return aside(&format!("the runner refuses the image, {}", text::report::<Model>(input).trim_end()));
+        return not_run(&format!("the runner refuses the image, {}", text::report::<Model>(input).trim_end()), ASIDE);
     };
     match compare::<Original>(&case, &mut Counts::default()) {
         Outcome::Same => {}
-        Outcome::Aside(why) => return aside(&why),
+        Outcome::Aside(why) => return not_run(&why, if why == Aside::NotMapped { NOT_MAPPED } else { ASIDE }),
         Outcome::Differs(what) => {
             eprintln!("oracle: the model and the Rust differ: {what}");
             return ExitCode::FAILURE;

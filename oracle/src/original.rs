@@ -1,5 +1,5 @@
 //! The original, driven: its `Vm` over pages at the paper's own addresses.
-use crate::anomaly::{ALLOCATION_REFUSED, ASSERTION_FAILED, DIVISION_BY_ZERO, HALT, SIZE, STACK_OVERFLOW};
+use crate::anomaly::{ALLOCATION_FAILED, ASSERTION_FAILED, DIVISION_BY_ZERO, HALT, SIZE, STACK_OVERFLOW};
 use crate::image::Image;
 use crate::machine::{Answer, Call, Lent, Machine, View};
 use purple_garden_allocators::page::Heap;
@@ -204,7 +204,7 @@ impl Original {
         let (number, pc) = match self.vm.run::<false>(&[]) {
             Ok(()) => (HALT, self.vm.pc),
             Err(Anomaly::DivisionByZero { pc }) => (DIVISION_BY_ZERO, pc),
-            Err(Anomaly::AllocationFailed { pc }) => (ALLOCATION_REFUSED, pc),
+            Err(Anomaly::AllocationFailed { pc }) => (ALLOCATION_FAILED, pc),
             Err(Anomaly::StackOverflow { pc }) => (STACK_OVERFLOW, pc),
             Err(Anomaly::AssertionFailed { pc }) => (ASSERTION_FAILED, pc),
         };
@@ -251,7 +251,7 @@ impl Machine for Original {
                 let layout = Layout::from_size_align(size as usize, align as usize);
                 match vm.try_alloc(AllocType::from_u8(kind as u8).unwrap(), layout.unwrap()) {
                     Some(at) => Answer::Value(at.as_ptr() as u64),
-                    None => Answer::Refused(ALLOCATION_REFUSED),
+                    None => Answer::Refused(ALLOCATION_FAILED),
                 }
             }
             Call::NewOption(value) => Answer::Value(vm.new_option(value.map(|v| v as i64)).0),

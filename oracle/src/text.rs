@@ -1,5 +1,5 @@
 //! The image runner: document 01, 'The image runner reads lower-case lines, highest digit first'.
-use crate::anomaly::{MALFORMED, SIZE};
+use crate::anomaly::{SIZE, TEXT};
 use crate::case::Case;
 use crate::image::{Image, Lookup, Switch};
 use crate::machine::{Answer, Call, Lent, Machine, PAGE};
@@ -159,7 +159,7 @@ fn refusal(number: u8) -> String {
 /// What the runner prints for an input, by this machine.
 pub fn report<M: Machine>(input: &[u8]) -> String {
     let Some(text) = read(input) else {
-        return refusal(MALFORMED);
+        return refusal(TEXT);
     };
     if !text.within() {
         return refusal(SIZE);

@@ -174,18 +174,18 @@ fn an_allocation_is_refused_where_the_heap_has_less_than_grow_asks() {
     let one_page = Lent { heap: 4096, ..LENT };
     let two_pages = Lent { heap: 8192, ..LENT };
     let (answers, model) = same(Case { lent: one_page, ..calls(vec![allocate(4049), allocate(4048)]) });
-    assert_eq!(answers, [Answer::Refused(ALLOCATION_REFUSED), Answer::Value(B + 48)]);
+    assert_eq!(answers, [Answer::Refused(ALLOCATION_FAILED), Answer::Value(B + 48)]);
     assert_eq!(model.state.pushed, 4096);
     // 4,073 would fit a page with its header, and grow asks for two
     let (answers, _) = same(Case { lent: two_pages, ..calls(vec![allocate(4073), allocate(4072), allocate(1)]) });
-    let refused = Answer::Refused(ALLOCATION_REFUSED);
+    let refused = Answer::Refused(ALLOCATION_FAILED);
     assert_eq!(answers, [refused, Answer::Value(B + 4112), refused]);
 }
 
 #[test]
 fn a_host_allocation_of_any_size_is_answered() {
     let (answers, _) = same(calls(vec![allocate(u64::MAX), allocate(u64::MAX - 23)]));
-    assert_eq!(answers, [Answer::Refused(ALLOCATION_REFUSED); 2]);
+    assert_eq!(answers, [Answer::Refused(ALLOCATION_FAILED); 2]);
 }
 
 // value/mod.rs
@@ -337,7 +337,7 @@ fn ret_from_the_root() {
     assert_eq!((answers[0], model.state.depth, model.state.pc), (end(0, 2, 2), 0, 2));
     let mut again = program(&code, &[]);
     again.calls.extend([Call::SetPc(0), Call::Run { image: 0, budget: 9 }]);
-    let (answers, model) = aside(again, Aside::End(RET_AT_DEPTH_0));
+    let (answers, model) = aside(again, Aside::End(FRAME_UNDERFLOW));
     assert_eq!((answers[2], model.state.depth, model.state.pc), (end(8, 0, 0), 0, 0));
 }
 
@@ -391,9 +391,9 @@ fn frame_0_of_a_run() {
 fn budgets() {
     let nop = word(op::Nop, 0, 0, 0, 0);
     let with = |budget| Case { calls: vec![Call::Run { image: 0, budget }], ..program(&[nop, nop, HALT], &[]) };
-    let (answers, model) = aside(with(0), Aside::End(SPENT));
+    let (answers, model) = aside(with(0), Aside::End(BUDGET));
     assert_eq!((answers[0], model.state.pc, model.frames[0]), (end(5, 0, 0), 0, 1));
-    let (answers, model) = aside(with(2), Aside::End(SPENT));
+    let (answers, model) = aside(with(2), Aside::End(BUDGET));
     assert_eq!((answers[0], model.state.pc), (end(5, 2, 2), 2));
     let (answers, model) = same(with(3));
     assert_eq!((answers[0], model.state.pc), (end(0, 2, 3), 2));
@@ -402,7 +402,7 @@ fn budgets() {
     // spent before an instruction that would fail
     let failing =
         Case { calls: vec![Call::Run { image: 0, budget: 1 }], ..program(&[nop, word(op::Assert, 0, 0, 0, 0), HALT], &[]) };
-    assert_eq!(aside(failing, Aside::End(SPENT)).0[0], end(5, 1, 1));
+    assert_eq!(aside(failing, Aside::End(BUDGET)).0[0], end(5, 1, 1));
 }
 
 #[test]
@@ -477,7 +477,7 @@ fn addresses() {
     // 'an unwrapped sum'
     assert_eq!(loaded(u64::MAX - 7, B as u32 + 8), six);
     let stopped = program(&[word(op::Nop, 0, 0, 0, 0), word(op::Load, 1, 0, 0, 0), HALT], &[]);
-    let (answers, model) = aside(stopped, Aside::End(ADDRESS));
+    let (answers, model) = aside(stopped, Aside::End(BAD_ADDRESS));
     assert_eq!((answers[0], model.state.pc), (six, 0));
     // '`AddrOf` wraps and checks nothing'
     let code = [word(op::LoadG, 0, 0, 0, 0), word(op::AddrOf, 1, 0, 0, 9), HALT];
@@ -506,7 +506,7 @@ fn blocks_and_the_conditions() {
 #[test]
 fn an_allocation_refused_in_a_run() {
     let code = [word(op::LoadI, 0, 0, 0, 3), word(op::Alloc, 0, 1, 8, 40_000), HALT];
-    let (answers, model) = aside(program(&code, &[]), Aside::End(ALLOCATION_REFUSED));
+    let (answers, model) = aside(program(&code, &[]), Aside::End(ALLOCATION_FAILED));
     assert_eq!((answers[0], model.state.pushed, model.state.regs[0], model.state.pc), (end(2, 1, 1), 4096, 3, 0));
 }
 

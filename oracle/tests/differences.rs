@@ -57,6 +57,25 @@ fn a_nan_result_is_the_processors() {
     assert_eq!(r1(&code, &[0x7ff0_0000_0000_0001]), (0x7ff8_0000_0000_0000, 0x7ff8_0000_0000_0001));
 }
 
+/// Seven bytes that a program has set where the next header's padding will lie. Rust promises nothing of padding; built here, it is not written.
+#[test]
+fn the_padding_of_a_header_is_left_as_it_was() {
+    let _one = one();
+    let code = [
+        word(op::LoadG, 0, 0, 0, 0),
+        word(op::LoadI, 1, 0, 0, !0),
+        word(op::Store, 0, 1, 0, 0),
+        word(op::Alloc, 2, 0, 8, 8),
+        HALT,
+    ];
+    let (ours, theirs, model, original) = run(&code, &[B + 40]);
+    assert!(theirs.is_some_and(|theirs| ours.agrees(theirs)));
+    assert_eq!((model.state.regs[2], original.view().regs[2]), (B + 48, B + 48));
+    // size, flags, padding
+    assert_eq!(model.heap[32..48], [8, 0, 0, 0, 0, 0, 0, 0, 0, 0, 0, 0, 0, 0, 0, 0]);
+    assert_eq!(original.view().heap[32..48], [8, 0, 0, 0, 0, 0, 0, 0, 0, 255, 255, 255, 255, 255, 255, 255]);
+}
+
 #[test]
 fn an_allocation_that_is_refused_panics() {
     let _one = one();

@@ -88,7 +88,7 @@ fn lines() {
     ] {
         assert_eq!(of(&bad), MALFORMED, "{bad:?}");
     }
-    // 'The whole text is read before anything else': 19 before 10
+    // 'The runner gives 19 first, then the load's numbers'
     assert_eq!(of(&image(0, 4, 64, 10, "x\n")), MALFORMED);
     // zero targets, zero values, no bytes
     assert_eq!(small(&format!("{HALT}030000000000000000\n0400000000000000000000000000000000\n")), small(HALT));
@@ -96,7 +96,7 @@ fn lines() {
 
 #[test]
 fn too_long() {
-    // 65,536 bytes are read, one more is not; as many globals as that are 10
+    // 65,536 bytes are read, one more is not; the globals that go into them are fewer than 4,096, so never 10
     let line = "020000000000000000\n";
     let mut text = image(1, 4, 64, 10, "");
     while text.len() + line.len() <= 65_536 {

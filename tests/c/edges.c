@@ -1,4 +1,4 @@
-/* The library at its edges: states of too few words, null with count 0, each limit of the header and what lies past it. */
+/* The library at its edges: states of too few words, null with count 0, each limit of the header and what lies past it, malformed tables. */
 #include <stdio.h>
 #include <stdlib.h>
 #include <string.h>
@@ -154,13 +154,12 @@ static void limits(void)
     PAST(lookups, 1);
     PAST(lookup_entries, 1);
     PAST(frames, 1);
-    PAST(heap, GIRZHANOK_PAGE_SIZE);
     PAST(base, GIRZHANOK_PAGE_SIZE);
     PAST(slots, 1);
     PAST(spare, 1);
     EXPECT(0, start(LEAST));
     UNDER(frames, 1);
-    UNDER(heap, 1);
+    UNDER(heap, GIRZHANOK_PAGE_SIZE);
     UNDER(slots, 1);
     UNDER(spare, 1);
     UNDER(base, GIRZHANOK_PAGE_SIZE);
@@ -170,6 +169,59 @@ static void limits(void)
     struct sizes half = LEAST;
     half.slots = half.spare = GIRZHANOK_SLOTS_MIN / 2;
     EXPECT(GIRZHANOK_SIZE, start(half));
+    /* one page more, at a base that has room for it */
+    struct sizes pages = LARGEST;
+    pages.base = GIRZHANOK_PAGE_SIZE;
+    EXPECT(0, start(pages));
+    pages.heap += GIRZHANOK_PAGE_SIZE;
+    EXPECT(GIRZHANOK_SIZE, start(pages));
+    /* a heap and a base between two pages */
+    struct sizes part = LEAST;
+    part.heap += 1;
+    EXPECT(GIRZHANOK_SIZE, start(part));
+    part = LEAST;
+    part.base += 1;
+    EXPECT(GIRZHANOK_SIZE, start(part));
+}
+
+static const uint64_t list[4];
+
+/* the same tables lent as those of Switch and as those of Lookup, so many of each list, to a start and to a run */
+static void tables(uint64_t wanted, size_t firsts, const uint64_t *at, size_t n, size_t entries, size_t defaults)
+{
+    uint64_t state[WORDS] = {0};
+    EXPECT(wanted, girzhanok_start(state, WORDS, BASE, halt, 1, NONE, list, firsts, at, n, list, entries, NONE, NONE, NONE, NONE,
+                                   FRAMES, HEAP, SLOTS, SPARE));
+    EXPECT(wanted, girzhanok_start(state, WORDS, BASE, halt, 1, NONE, NONE, NONE, NONE, list, firsts, at, n, list, entries, list, defaults,
+                                   FRAMES, HEAP, SLOTS, SPARE));
+    EXPECT(0, girzhanok_start(state, WORDS, BASE, halt, 1, NONE, NO_TABLES, FRAMES, HEAP, SLOTS, SPARE));
+    EXPECT(wanted, girzhanok_run(state, WORDS, 9, halt, 1, NONE, list, firsts, at, n, list, entries, NONE, NONE, NONE, NONE,
+                                 FRAMES, HEAP, &l.pc, &l.steps));
+    EXPECT(wanted, girzhanok_run(state, WORDS, 9, halt, 1, NONE, NONE, NONE, NONE, list, firsts, at, n, list, entries, list, defaults,
+                                 FRAMES, HEAP, &l.pc, &l.steps));
+}
+
+static void malformed_tables(void)
+{
+    static const uint64_t rising[] = {1, 3}, equal[] = {3, 3}, falling[] = {3, 1}, dipping[] = {2, 1, 3}, past[] = {1, UINT64_MAX};
+    tables(0, 2, rising, 2, 3, 2);
+    tables(0, 2, equal, 2, 3, 2);
+    tables(GIRZHANOK_SIZE, 2, falling, 2, 3, 2);
+    tables(GIRZHANOK_SIZE, 3, dipping, 3, 3, 3);
+    tables(GIRZHANOK_SIZE, 2, past, 2, 3, 2);
+    /* entries past the last end, and too few */
+    tables(GIRZHANOK_SIZE, 2, rising, 2, 4, 2);
+    tables(GIRZHANOK_SIZE, 2, rising, 2, 2, 2);
+    tables(GIRZHANOK_SIZE, 0, NULL, 0, 1, 0);
+    /* lists of other lengths than the first keys */
+    tables(GIRZHANOK_SIZE, 1, rising, 2, 3, 1);
+    tables(GIRZHANOK_SIZE, 3, rising, 2, 3, 3);
+    /* defaults too few, and without a table */
+    uint64_t state[WORDS] = {0};
+    EXPECT(GIRZHANOK_SIZE, girzhanok_start(state, WORDS, BASE, halt, 1, NONE, NONE, NONE, NONE, list, 2, rising, 2, list, 3, list, 1,
+                                           FRAMES, HEAP, SLOTS, SPARE));
+    EXPECT(GIRZHANOK_SIZE, girzhanok_start(state, WORDS, BASE, halt, 1, NONE, NONE, NONE, NONE, NONE, NONE, NONE, list, 1,
+                                           FRAMES, HEAP, SLOTS, SPARE));
 }
 
 int main(void)
@@ -181,6 +233,7 @@ int main(void)
     no_buffers();
     EXPECT(77, l.state[WORDS]);
     limits();
+    malformed_tables();
     printf("edges: %u checks\n", checks);
     return 0;
 }

@@ -5,7 +5,7 @@ use std::fmt;
 #[derive(Clone, Copy, Debug, PartialEq, Eq)]
 #[repr(u64)]
 pub enum End {
-    /// At a Halt, or with nothing to run.
+    /// At a Halt; or with nothing to run, where the code is empty or the stored pc past its end.
     Halt = 0,
     /// A zero divisor.
     DivisionByZero = 1,
@@ -33,13 +33,14 @@ pub enum Refusal {
     Memory = 2,
     /// A state that cannot belong to the buffers.
     State = 9,
-    /// A size or the base outside the limits.
+    /// A size or the base outside the limits, ends of tables that do not rise from 0 to the number of entries, or not as many ends, or
+    /// defaults, as first keys.
     Size = 10,
-    /// Code that does not end in a Halt.
+    /// Code whose last word has another byte 0 than 59; empty code is taken.
     NoHalt = 11,
-    /// An opcode that is not carried.
+    /// An opcode from 40 to 49, or above 60.
     Opcode = 12,
-    /// A register above 31, a kind, an alignment, or an unused byte.
+    /// A register above 31, a kind, an alignment, or an unused byte that is not zero.
     Operand = 13,
     /// A jump or a function past the code.
     Target = 14,
@@ -56,6 +57,7 @@ pub enum Refusal {
 }
 
 impl End {
+    /// Each at the place of its number.
     const ALL: [End; 9] = [
         End::Halt,
         End::DivisionByZero,
@@ -74,13 +76,13 @@ impl End {
     }
 
     pub(crate) fn from_number(number: u64) -> Option<End> {
-        End::ALL.into_iter().find(|end| end.number() == number)
+        End::ALL.get(usize::try_from(number).ok()?).copied()
     }
 }
 
 impl Refusal {
-    const ALL: [Refusal; 12] = [
-        Refusal::Memory,
+    /// Those but `Memory`, in the order of their numbers.
+    const FROM_9: [Refusal; 11] = [
         Refusal::State,
         Refusal::Size,
         Refusal::NoHalt,
@@ -101,7 +103,17 @@ impl Refusal {
 
     /// The library returns no other number, which is proved.
     pub(crate) fn from_number(number: u64) -> Refusal {
-        Refusal::ALL.into_iter().find(|why| why.number() == number).expect("a number of the table")
+        if number == Refusal::Memory.number() {
+            return Refusal::Memory;
+        }
+        let place = number.checked_sub(Refusal::State.number()).expect("a refusal's number");
+        Refusal::FROM_9[place as usize]
+    }
+}
+
+impl fmt::Display for End {
+    fn fmt(&self, f: &mut fmt::Formatter) -> fmt::Result {
+        write!(f, "ended with {}: {:?}", self.number(), self)
     }
 }
 
@@ -112,3 +124,25 @@ impl fmt::Display for Refusal {
 }
 
 impl std::error::Error for Refusal {}
+
+#[cfg(test)]
+mod tests {
+    use super::*;
+
+    #[test]
+    fn each_number_gives_what_has_it() {
+        for end in End::ALL {
+            assert_eq!(End::from_number(end.number()), Some(end));
+        }
+        assert_eq!(End::from_number(9), None);
+        for why in Refusal::FROM_9.into_iter().chain([Refusal::Memory]) {
+            assert_eq!(Refusal::from_number(why.number()), why);
+        }
+    }
+
+    #[test]
+    fn they_are_shown_with_their_numbers() {
+        assert_eq!(End::StackOverflow.to_string(), "ended with 3: StackOverflow");
+        assert_eq!(Refusal::TableFull.to_string(), "refused with 18: TableFull");
+    }
+}

@@ -1,5 +1,5 @@
 //! Every call of the library through the safe interface, and refusals that change nothing.
-use girzhanok::{End, Image, Kind, Ran, Refusal, State, Tables, PAGE_SIZE, STATE_WORDS};
+use girzhanok::{End, Image, Kind, Ran, Refusal, State, Tables, PAGE_SIZE, STATE_WORDS, WORD_DEPTH};
 
 const BASE: u64 = 65536;
 
@@ -87,6 +87,44 @@ fn tables_are_lent_flat() {
 }
 
 #[test]
+fn malformed_tables_are_refused() {
+    let mut lent = small();
+    let mut refused = |switches, lookups, defaults| {
+        let image = Image { code: &[59], switches, lookups, defaults, ..Image::EMPTY };
+        assert_eq!(lent.start(&image), Err(Refusal::Size), "{image:?}");
+    };
+    // ends that fall, that stop before the entries do, that go past them, and one too many
+    for (firsts, ends, entries) in
+        [(&[1, 1][..], &[2, 1][..], &[0, 0][..]), (&[1], &[1], &[0, 0]), (&[1], &[2], &[0]), (&[1], &[0, 1], &[0])]
+    {
+        let tables = Tables { firsts, ends, entries };
+        refused(tables, Tables::EMPTY, &[]);
+        refused(Tables::EMPTY, tables, &[0, 0][..firsts.len()]);
+    }
+    refused(Tables::EMPTY, Tables { firsts: &[1], ends: &[1], entries: &[0] }, &[]);
+    refused(Tables::EMPTY, Tables::EMPTY, &[0]);
+}
+
+#[test]
+fn a_sale_after_one_that_stopped_in_a_function() {
+    let mut lent = small();
+    // Call 2; Halt; IDiv r1, r2, r0; Ret; Halt
+    let image = Image { code: &[0x0000_0002_0000_0027, 59, 0x0000_0000_0002_0106, 57, 59], ..Image::EMPTY };
+    let mut state = lent.start(&image).unwrap();
+    let mut rate = |by: u64, depth: usize| {
+        state.reset(&mut lent.frames).unwrap();
+        state.set_pc(0);
+        state.set_register(0, by).unwrap();
+        state.set_register(2, 60).unwrap();
+        let ran = state.run(10, &image, &mut lent.frames, &mut lent.heap).unwrap();
+        assert_eq!(state.depth(), depth);
+        (ran.end, state.registers()[1])
+    };
+    assert_eq!(rate(0, 2), (End::DivisionByZero, 0));
+    assert_eq!(rate(5, 1), (End::Halt, 12));
+}
+
+#[test]
 fn one_name_has_one_address() {
     let mut lent = Lent::new(1, 2, 128);
     let mut state = lent.start(&Image::EMPTY).unwrap();
@@ -120,7 +158,7 @@ fn reset_leaves_registers_and_names() {
     lent.intern(&mut state, b"gold").unwrap();
     state.run(10, &COUNT, &mut lent.frames, &mut lent.heap).unwrap();
     state.reset(&mut lent.frames).unwrap();
-    assert_eq!((state.pc(), state.depth(), state.names(), state.registers()[1]), (u64::MAX, 1, 1, 6));
+    assert_eq!((state.pc(), state.depth(), state.names(), state.registers()[1]), (usize::MAX, 1, 1, 6));
     assert_eq!(lent.frames[0], u64::MAX);
     state.set_pc(1);
     let ran = state.run(10, &COUNT, &mut lent.frames, &mut lent.heap);
@@ -159,8 +197,10 @@ fn a_refused_call_changes_nothing() {
     calls.push((Refusal::Operand, Box::new(|s, _| s.set_register(32, 1))));
     calls.push((Refusal::Size, Box::new(|s, _| s.reset(&mut []))));
     calls.push((Refusal::Size, Box::new(|s, l| s.run(9, &COUNT, &mut l.frames, &mut []).map(|_| ()))));
-    calls.push((Refusal::NoHalt, Box::new(|s, l| s.run(9, &Image { code: &[60], ..Image::EMPTY }, &mut l.frames, &mut l.heap).map(|_| ()))));
+    calls
+        .push((Refusal::NoHalt, Box::new(|s, l| s.run(9, &Image { code: &[60], ..Image::EMPTY }, &mut l.frames, &mut l.heap).map(|_| ()))));
     calls.push((Refusal::Operand, Box::new(|s, l| s.allocate(Kind::Array, 3, 8, &mut l.heap).map(|_| ()))));
+    calls.push((Refusal::Operand, Box::new(|s, l| s.allocate_as(4, 8, 8, &mut l.heap).map(|_| ()))));
     calls.push((Refusal::Memory, Box::new(|s, l| s.allocate(Kind::Array, 8, u64::MAX, &mut l.heap).map(|_| ()))));
     calls.push((Refusal::Size, Box::new(|s, _| s.option(None, &mut []).map(|_| ()))));
     calls.push((Refusal::TableFull, Box::new(|s, l| l.intern(s, b"the 33rd").map(|_| ()))));
@@ -172,7 +212,7 @@ fn a_refused_call_changes_nothing() {
     }
     // words that no call has made
     let mut words = *state.words();
-    words[33] = 5;
+    words[WORD_DEPTH] = 5;
     let mut foreign = State::from_words(words);
     assert_eq!(foreign.run(9, &COUNT, &mut lent.frames, &mut lent.heap), Err(Refusal::State));
     assert_eq!(foreign.words(), &words);

@@ -1,29 +1,19 @@
-//! The proved machine, by its library. It is asked every call, refused ones and made-up states too, and its lent buffers are compared
-//! whole.
+//! The proved machine, by its library and the bindings to it. It is asked every call, refused ones and made-up states too, and its lent
+//! buffers are compared whole.
+use girzhanok::{
+    Refusal, State, Tables, STATE_WORDS, WORD_ACTIVE, WORD_DEPTH, WORD_LEN, WORD_NAMES, WORD_PAGE, WORD_PC, WORD_PUSHED,
+};
 use oracle::anomaly::SIZE;
 use oracle::compare::Compared;
 use oracle::image::Image;
 use oracle::machine::{Answer, Call, Field, Lent, Machine, View, Whole};
 use std::borrow::Cow;
 
-/// As the bindings declare them: a test holds these declarations to the proved source.
-#[path = "../../../bindings/rust/src/ffi.rs"]
-mod ffi;
-
-const STATE_WORDS: usize = 40;
-const PC: usize = 32;
-const DEPTH: usize = 33;
-const PUSHED: usize = 35;
-const PAGE: usize = 36;
-const LEN: usize = 37;
-const ACTIVE: usize = 38;
-const NAMES: usize = 39;
-
 /// No lent buffer that the machine takes is longer; a case that lends more is not handed to it, but refused as the paper says.
 const MOST: u64 = 1 << 24;
 
 pub struct Proved {
-    words: [u64; STATE_WORDS],
+    state: State,
     frames: Vec<u64>,
     heap: Vec<u8>,
     slots: Vec<u64>,
@@ -33,158 +23,100 @@ pub struct Proved {
 /// An image as it is lent: tables in rows.
 struct Flat<'a> {
     image: &'a Image,
-    switch_firsts: Vec<u64>,
-    switch_ends: Vec<u64>,
-    switch_entries: Vec<u64>,
-    lookup_firsts: Vec<u64>,
-    lookup_ends: Vec<u64>,
-    lookup_entries: Vec<u64>,
+    switches: Rows,
+    lookups: Rows,
     defaults: Vec<u64>,
 }
 
-/// Where the entries of each table end in a row of all.
-fn ends<'a>(tables: impl Iterator<Item = &'a Vec<u64>>) -> Vec<u64> {
-    tables
-        .scan(0, |end, table| {
-            *end += table.len() as u64;
-            Some(*end)
-        })
-        .collect()
+struct Rows {
+    firsts: Vec<u64>,
+    ends: Vec<u64>,
+    entries: Vec<u64>,
+}
+
+impl Rows {
+    fn of<'a>(tables: impl Iterator<Item = (u64, &'a Vec<u64>)>) -> Self {
+        let mut rows = Rows { firsts: Vec::new(), ends: Vec::new(), entries: Vec::new() };
+        for (first, entries) in tables {
+            rows.firsts.push(first);
+            rows.entries.extend(entries);
+            rows.ends.push(rows.entries.len() as u64);
+        }
+        rows
+    }
+
+    fn lend(&self) -> Tables<'_> {
+        Tables { firsts: &self.firsts, ends: &self.ends, entries: &self.entries }
+    }
 }
 
 impl<'a> Flat<'a> {
     fn of(image: &'a Image) -> Self {
-        let (switches, lookups) = (&image.switches, &image.lookups);
         Flat {
             image,
-            switch_firsts: switches.iter().map(|t| t.first).collect(),
-            switch_ends: ends(switches.iter().map(|t| &t.targets)),
-            switch_entries: switches.iter().flat_map(|t| t.targets.clone()).collect(),
-            lookup_firsts: lookups.iter().map(|t| t.first).collect(),
-            lookup_ends: ends(lookups.iter().map(|t| &t.values)),
-            lookup_entries: lookups.iter().flat_map(|t| t.values.clone()).collect(),
-            defaults: lookups.iter().map(|t| t.default).collect(),
+            switches: Rows::of(image.switches.iter().map(|t| (t.first, &t.targets))),
+            lookups: Rows::of(image.lookups.iter().map(|t| (t.first, &t.values))),
+            defaults: image.lookups.iter().map(|t| t.default).collect(),
         }
+    }
+
+    fn lend(&self) -> girzhanok::Image<'_> {
+        let Image { code, globals, .. } = self.image;
+        girzhanok::Image { code, globals, switches: self.switches.lend(), lookups: self.lookups.lend(), defaults: &self.defaults }
     }
 }
 
-impl Proved {
-    fn load(&mut self, base: u64, image: &Image) -> u64 {
-        let f = Flat::of(image);
-        // SAFETY: each pointer with the length of its own vector; what is written is lent to nothing else
-        unsafe {
-            ffi::girzhanok_start(
-                self.words.as_mut_ptr(),
-                STATE_WORDS,
-                base,
-                f.image.code.as_ptr(),
-                f.image.code.len(),
-                f.image.globals.as_ptr(),
-                f.image.globals.len(),
-                f.switch_firsts.as_ptr(),
-                f.switch_firsts.len(),
-                f.switch_ends.as_ptr(),
-                f.switch_ends.len(),
-                f.switch_entries.as_ptr(),
-                f.switch_entries.len(),
-                f.lookup_firsts.as_ptr(),
-                f.lookup_firsts.len(),
-                f.lookup_ends.as_ptr(),
-                f.lookup_ends.len(),
-                f.lookup_entries.as_ptr(),
-                f.lookup_entries.len(),
-                f.defaults.as_ptr(),
-                f.defaults.len(),
-                self.frames.as_mut_ptr(),
-                self.frames.len(),
-                self.heap.as_mut_ptr(),
-                self.heap.len(),
-                self.slots.as_ptr(),
-                self.slots.len(),
-                self.spare.as_ptr(),
-                self.spare.len(),
-            )
-        }
-    }
-
-    fn run(&mut self, image: &Image, budget: u32) -> Answer {
-        let f = Flat::of(image);
-        let (mut pc, mut steps) = (0, 0);
-        // SAFETY: as for `load`
-        let number = unsafe {
-            ffi::girzhanok_run(
-                self.words.as_mut_ptr(),
-                STATE_WORDS,
-                budget,
-                f.image.code.as_ptr(),
-                f.image.code.len(),
-                f.image.globals.as_ptr(),
-                f.image.globals.len(),
-                f.switch_firsts.as_ptr(),
-                f.switch_firsts.len(),
-                f.switch_ends.as_ptr(),
-                f.switch_ends.len(),
-                f.switch_entries.as_ptr(),
-                f.switch_entries.len(),
-                f.lookup_firsts.as_ptr(),
-                f.lookup_firsts.len(),
-                f.lookup_ends.as_ptr(),
-                f.lookup_ends.len(),
-                f.lookup_entries.as_ptr(),
-                f.lookup_entries.len(),
-                f.defaults.as_ptr(),
-                f.defaults.len(),
-                self.frames.as_mut_ptr(),
-                self.frames.len(),
-                self.heap.as_mut_ptr(),
-                self.heap.len(),
-                &mut pc,
-                &mut steps,
-            )
-        };
-        // the ends of a run are 0 to 8, its refusals 9 and more
-        if number < 9 {
-            Answer::End { number: number as u8, pc: pc as u64, steps: Some(steps.into()) }
-        } else {
-            Answer::Refused(number as u8)
-        }
-    }
-
-    /// A call that gives a value.
-    fn given(&mut self, call: impl FnOnce(&mut Self, &mut u64) -> u64) -> Answer {
-        let mut value = 0;
-        match call(self, &mut value) {
-            0 => Answer::Value(value),
-            number => Answer::Refused(number as u8),
-        }
-    }
-
-    fn make_up(&mut self, field: Field, value: u64) {
-        *match field {
-            Field::Depth => &mut self.words[DEPTH],
-            Field::Pushed => &mut self.words[PUSHED],
-            Field::Page => &mut self.words[PAGE],
-            Field::Len => &mut self.words[LEN],
-            Field::Active => &mut self.words[ACTIVE],
-            Field::Names => &mut self.words[NAMES],
-            Field::Frame(i) => &mut self.frames[i],
-            Field::Slot(i) => &mut self.slots[i],
-        } = value;
-    }
+/// A number of the table.
+fn byte(number: u64) -> u8 {
+    u8::try_from(number).expect("a number of the table")
 }
 
-/// 0 is done.
-fn done(number: u64) -> Answer {
-    if number == 0 {
-        Answer::Done
-    } else {
-        Answer::Refused(number as u8)
-    }
+fn refused(why: Refusal) -> Answer {
+    Answer::Refused(byte(why.number()))
+}
+
+fn done(result: Result<(), Refusal>) -> Answer {
+    result.map_or_else(refused, |()| Answer::Done)
+}
+
+fn value(result: Result<u64, Refusal>) -> Answer {
+    result.map_or_else(refused, Answer::Value)
 }
 
 /// The first n, or all where a made-up state says more.
 fn first<T>(all: &[T], n: u64) -> &[T] {
     &all[..(all.len() as u64).min(n) as usize]
+}
+
+impl Proved {
+    fn run(&mut self, image: &Image, budget: u32) -> Answer {
+        match self.state.run(budget, &Flat::of(image).lend(), &mut self.frames, &mut self.heap) {
+            Ok(ran) => Answer::End { number: byte(ran.end.number()), pc: ran.pc as u64, steps: Some(ran.steps.into()) },
+            Err(why) => refused(why),
+        }
+    }
+
+    fn make_up(&mut self, field: Field, value: u64) {
+        let word = match field {
+            Field::Depth => WORD_DEPTH,
+            Field::Pushed => WORD_PUSHED,
+            Field::Page => WORD_PAGE,
+            Field::Len => WORD_LEN,
+            Field::Active => WORD_ACTIVE,
+            Field::Names => WORD_NAMES,
+            Field::Frame(i) => {
+                self.frames[i] = value;
+                return;
+            }
+            Field::Slot(i) => {
+                self.slots[i] = value;
+                return;
+            }
+        };
+        let mut words: [u64; STATE_WORDS] = *self.state.words();
+        words[word] = value;
+        self.state = State::from_words(words);
+    }
 }
 
 impl Machine for Proved {
@@ -193,65 +125,32 @@ impl Machine for Proved {
             return Err(SIZE);
         }
         let words = |n: u64| vec![u64::from_le_bytes([lent.fill; 8]); n as usize];
-        let mut machine = Self {
-            words: [0; STATE_WORDS],
-            frames: words(lent.frames),
-            heap: vec![lent.fill; lent.heap as usize],
-            slots: words(lent.slots),
-            spare: words(lent.spare),
-        };
-        match machine.load(lent.base, image) {
-            0 => Ok(machine),
-            number => Err(number as u8),
+        let (mut frames, mut heap) = (words(lent.frames), vec![lent.fill; lent.heap as usize]);
+        let (slots, spare) = (words(lent.slots), words(lent.spare));
+        match State::start(lent.base, &Flat::of(image).lend(), &mut frames, &mut heap, &slots, &spare) {
+            Ok(state) => Ok(Self { state, frames, heap, slots, spare }),
+            Err(why) => {
+                let kept = frames == words(lent.frames) && heap.iter().all(|&b| b == lent.fill);
+                assert!(kept, "a refused start has written to the frames or the heap");
+                Err(byte(why.number()))
+            }
         }
     }
 
     fn call(&mut self, images: &[Image], call: &Call) -> Answer {
-        // SAFETY, of every call below: each pointer with the length of its own buffer
+        let Self { state, frames, heap, slots, spare } = self;
         match *call {
             Call::Run { image, budget } => self.run(&images[image], budget as u32),
-            Call::Reset => done(unsafe { ffi::girzhanok_reset(self.words.as_mut_ptr(), STATE_WORDS, self.frames.as_mut_ptr(), self.frames.len()) }),
-            Call::SetPc(pc) => done(unsafe { ffi::girzhanok_set_pc(self.words.as_mut_ptr(), STATE_WORDS, pc as usize) }),
-            Call::SetRegister { register, value } => {
-                done(unsafe { ffi::girzhanok_set_register(self.words.as_mut_ptr(), STATE_WORDS, register as usize, value) })
+            Call::Reset => done(state.reset(frames)),
+            Call::SetPc(pc) => {
+                state.set_pc(pc as usize);
+                Answer::Done
             }
-            Call::Allocate { kind, align, size } => self.given(|m, value| unsafe {
-                ffi::girzhanok_allocate(m.words.as_mut_ptr(), STATE_WORDS, kind, align as usize, size, m.heap.as_mut_ptr(), m.heap.len(), value)
-            }),
-            Call::NewOption(payload) => self.given(|m, value| unsafe {
-                let (some, payload) = (payload.is_some(), payload.unwrap_or(0));
-                ffi::girzhanok_option(m.words.as_mut_ptr(), STATE_WORDS, some, payload, m.heap.as_mut_ptr(), m.heap.len(), value)
-            }),
-            Call::Intern(ref bytes) => self.given(|m, value| unsafe {
-                ffi::girzhanok_intern(
-                    m.words.as_mut_ptr(),
-                    STATE_WORDS,
-                    bytes.as_ptr(),
-                    bytes.len(),
-                    m.heap.as_mut_ptr(),
-                    m.heap.len(),
-                    m.slots.as_mut_ptr(),
-                    m.slots.len(),
-                    m.spare.as_mut_ptr(),
-                    m.spare.len(),
-                    value,
-                )
-            }),
-            Call::InternSmall { len, word } => self.given(|m, value| unsafe {
-                ffi::girzhanok_intern_small(
-                    m.words.as_mut_ptr(),
-                    STATE_WORDS,
-                    len as usize,
-                    word,
-                    m.heap.as_mut_ptr(),
-                    m.heap.len(),
-                    m.slots.as_mut_ptr(),
-                    m.slots.len(),
-                    m.spare.as_mut_ptr(),
-                    m.spare.len(),
-                    value,
-                )
-            }),
+            Call::SetRegister { register, value } => done(state.set_register(register as usize, value)),
+            Call::Allocate { kind, align, size } => value(state.allocate_as(kind, align as usize, size, heap)),
+            Call::NewOption(payload) => value(state.option(payload, heap)),
+            Call::Intern(ref bytes) => value(state.intern(bytes, heap, slots, spare)),
+            Call::InternSmall { len, word } => value(state.intern_small(len as usize, word, heap, slots, spare)),
             Call::MakeUp { field, value } => {
                 self.make_up(field, value);
                 Answer::Done
@@ -260,17 +159,17 @@ impl Machine for Proved {
     }
 
     fn view(&self) -> View<'_> {
-        let w = &self.words;
+        let w = self.state.words();
         View {
-            regs: Cow::Borrowed(&w[..PC]),
-            pc: w[PC],
-            depth: w[DEPTH],
-            frames: Cow::Borrowed(first(&self.frames, w[DEPTH])),
-            heap: Cow::Borrowed(first(&self.heap, w[PUSHED])),
-            page: w[PAGE],
-            len: w[LEN],
-            slots: Cow::Borrowed(first(&self.slots, w[ACTIVE])),
-            names: w[NAMES],
+            regs: Cow::Borrowed(self.state.registers()),
+            pc: w[WORD_PC],
+            depth: w[WORD_DEPTH],
+            frames: Cow::Borrowed(first(&self.frames, w[WORD_DEPTH])),
+            heap: Cow::Borrowed(first(&self.heap, w[WORD_PUSHED])),
+            page: w[WORD_PAGE],
+            len: w[WORD_LEN],
+            slots: Cow::Borrowed(first(&self.slots, w[WORD_ACTIVE])),
+            names: w[WORD_NAMES],
             pages: None,
             whole: Some(Whole { frames: &self.frames, heap: &self.heap, slots: &self.slots, spare: &self.spare }),
         }

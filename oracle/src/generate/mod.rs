@@ -33,7 +33,7 @@ pub fn case(seed: u64, number: u64) -> Case {
         75..76 => calls::many_names(rng),
         76..87 => limits::case(rng),
         87..96 => damage::case(rng),
-        // a text that the runner takes; the others are answered in `texts`
+        // a text that the runner takes; those that it refuses are answered in tests/damaged.rs
         _ => crate::text::case(&damage::text(rng)).unwrap_or_else(|| damage::case(rng)),
     }
 }

@@ -1,6 +1,6 @@
 //! Pages and blocks. Offsets are from the base.
 use super::{Block, Model};
-use crate::anomaly::ALLOCATION_REFUSED;
+use crate::anomaly::ALLOCATION_FAILED;
 use crate::machine::PAGE;
 
 const METADATA: u64 = 16;
@@ -30,7 +30,7 @@ impl Model {
             // '`grow` adds 24'
             let page = align_up((u128::from(size) + 24).max(u128::from(PAGE)), u128::from(PAGE));
             if page > self.heap.len() as u128 - u128::from(self.state.pushed) {
-                return Err(ALLOCATION_REFUSED);
+                return Err(ALLOCATION_FAILED);
             }
             self.push_page(page as u64);
         }

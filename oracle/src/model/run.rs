@@ -47,7 +47,7 @@ impl Model {
             }
         }
         self.state.pc = pc;
-        end(SPENT, pc, budget)
+        end(BUDGET, pc, budget)
     }
 
     fn step(&mut self, image: &Image, pc: u64) -> Next {
@@ -123,7 +123,7 @@ impl Model {
                     self.stays(rb, high(word) + 8);
                     self.read(address)
                 }
-                None => return Next::Stop(ADDRESS),
+                None => return Next::Stop(BAD_ADDRESS),
             },
             // '`AddrOf` wraps and checks nothing.'
             op::AddrOf => {
@@ -132,7 +132,7 @@ impl Model {
             }
             op::Store => {
                 let Some(address) = self.address(ra, high(word)) else {
-                    return Next::Stop(ADDRESS);
+                    return Next::Stop(BAD_ADDRESS);
                 };
                 if self.stays(ra, high(word) + 8) {
                     self.breaks(Condition::Payload);
@@ -165,7 +165,7 @@ impl Model {
             }
             op::Ret => {
                 if self.state.depth == 0 {
-                    return Next::Stop(RET_AT_DEPTH_0);
+                    return Next::Stop(FRAME_UNDERFLOW);
                 }
                 self.state.depth -= 1;
                 return Next::Jump(self.frames[self.state.depth as usize].wrapping_add(1));

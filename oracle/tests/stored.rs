@@ -1,0 +1,65 @@
+//! The stored vectors, instruction by instruction: each one is done, not only written, in at least three images.
+use oracle::machine::{Answer, Call, Machine};
+use oracle::model::Model;
+use oracle::model::word::{Format, ROWS};
+use oracle::text;
+use std::path::Path;
+
+/// No more steps of one image are looked at.
+const STEPS: usize = 1000;
+
+/// The images of crates/vectors/stdin, whose form tools/vectors describes.
+fn images() -> Vec<Vec<u8>> {
+    let path = Path::new(env!("CARGO_MANIFEST_DIR")).join("../crates/vectors/stdin");
+    let data = std::fs::read(path).unwrap();
+    let (mut at, mut found) = (0, Vec::new());
+    while at < data.len() {
+        let end = at + data[at..].iter().position(|&b| b == b'\n').unwrap();
+        let line = std::str::from_utf8(&data[at..end]).unwrap();
+        at = end + 1;
+        if line.starts_with("-- ") {
+            let length = |digits: &str| usize::from_str_radix(digits, 16).unwrap();
+            found.push(data[at..at + length(&line[9..14])].to_vec());
+            at += length(&line[9..14]) + length(&line[15..18]);
+        }
+    }
+    found
+}
+
+/// Which opcodes an image completes, asked one step at a time.
+fn done(input: &[u8]) -> [bool; 61] {
+    let mut done = [false; 61];
+    let Some(case) = text::case(input) else { return done };
+    let mut model = Model::start(case.lent, &case.images[0]).unwrap();
+    let (run, names) = case.calls.split_last().unwrap();
+    for call in names {
+        model.call(&case.images, call);
+    }
+    let Call::Run { budget, .. } = *run else { panic!("{run:?}") };
+    for _ in 0..budget.min(STEPS as u64) {
+        let pc = model.state.pc as usize;
+        let Answer::End { number, steps, .. } = model.call(&case.images, &Call::Run { image: 0, budget: 1 }) else { break };
+        if steps == Some(1) {
+            done[usize::from(case.images[0].code[pc] as u8)] = true;
+        }
+        if number != 5 {
+            break;
+        }
+    }
+    done
+}
+
+#[test]
+fn each_instruction_is_done_in_three_images() {
+    let images = images();
+    assert!(images.len() > 1000);
+    let mut counts = [0; 61];
+    for image in images {
+        for (count, done) in counts.iter_mut().zip(done(&image)) {
+            *count += usize::from(done);
+        }
+    }
+    for ((name, format), count) in ROWS.iter().zip(counts) {
+        assert_eq!(count >= 3, *format != Format::Absent, "{name}: done in {count} images");
+    }
+}

@@ -1,0 +1,37 @@
+"""How numbers and bytes are written, in listings and in cases."""
+
+import re
+import struct
+
+
+class Wrong(Exception):
+    """What is not written as it has to be."""
+
+
+def integer(token):
+    """Decimal or 0x.., with or without a minus sign; None where it is neither. 07 is neither."""
+    return int(token, 0) if re.fullmatch(r"-?(0|[1-9]\d*|0x[0-9a-fA-F]+)", token) else None
+
+
+def number(token, base=None):
+    """An integer, the pattern of a double such as 1.5f64, or, where the heap's base is known, `base` or `base+16`; else None."""
+    if re.fullmatch(r"-?\d+(\.\d+)?([eE][-+]?\d+)?f64", token):
+        return struct.unpack(">Q", struct.pack(">d", float(token[:-3])))[0]
+    if base is not None and re.fullmatch(r"base(\+\d+)?", token):
+        return base + int(token[5:] or "0")
+    return integer(token)
+
+
+def unescaped(text, named):
+    r"""The bytes of a text in which \xHH is a byte, and \ and a character what `named` has for it."""
+    out = b""
+    for escape, char in re.findall(r"\\(x[0-9a-fA-F]{2}|.)|(.)", text, re.S):
+        if char:
+            out += char.encode()
+        elif escape in named:
+            out += named[escape]
+        elif len(escape) == 3:
+            out += bytes.fromhex(escape[1:])
+        else:
+            raise Wrong(f"no such escape: \\{escape}")
+    return out
