@@ -6,11 +6,9 @@ ghost use Prim.Native.Nat.{_%_};
 ghost use Rattle.op.specs.Layout.{partsOf, isAlignment};
 ghost use Rattle.op.specs.Decode.{rowOf};
 ghost use Rattle.op.specs.Masks.{maskOfRow, restOf};
-ghost use Rattle.op.specs.Reach.{checkOf, insideOf, reachOf};
+ghost use Rattle.op.specs.Reach.{checkOf, insideOf};
 use crate::Checked;
 use crate::Counts;
-use crate::Op;
-use crate::Reach;
 use crate::word::ALLOC;
 use crate::word::BARE;
 use crate::word::CONDITION;
@@ -162,26 +160,5 @@ pub fn check(w: u64, n: Counts) -> Checked
         rest(w, n)
     } else {
         Checked::Refused(Refusal::OPERAND)
-    }
-}
-
-impl Op {
-    pub fn reach(self) -> Reach
-        ensures { λ r. ⌜ r ≡ reachOf self ⌝ }
-    {
-        match self {
-            Op::LoadG { idx, .. } => Reach::Global(idx),
-            Op::Jmp { target }
-            | Op::JmpT { target, .. }
-            | Op::JmpF { target, .. }
-            | Op::JmpEqI { target, .. }
-            | Op::JmpNeI { target, .. }
-            | Op::JmpSEq { target, .. }
-            | Op::JmpSNe { target, .. } => Reach::Code(target),
-            Op::Switch { table, .. } => Reach::SwitchTable(table),
-            Op::Lookup { table, .. } => Reach::LookupTable(table),
-            Op::Tail { func } | Op::Call { func } => Reach::Code(func),
-            _ => Reach::Nothing,
-        }
     }
 }
