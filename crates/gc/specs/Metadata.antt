@@ -14,7 +14,7 @@ bitsOf Array = 1
 bitsOf Option = 2
 bitsOf String = 3
 
--- the type in the three lowest bits, the mark above them
+-- the type in the three lowest bits, and above them `MARKED_FLAG` of gc.rs
 abbrev pub flagsOf : AllocType → Bool → ℕ
 flagsOf t true = bitsOf t + 8
 flagsOf t false = bitsOf t

@@ -15,8 +15,11 @@ use crate::payload::is_string;
 
 // What probing comes to.
 pub enum Probe {
+    // The value that is looked for.
     Found(u64),
+    // The first empty slot, with no such value before it.
     Vacant(usize),
+    // Every slot was looked at, and none is empty.
     Full,
 }
 
