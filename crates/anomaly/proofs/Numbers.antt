@@ -6,6 +6,7 @@ use mathlib.Core.Path.{_≡_, refl}
 use lib.Dec.{eqb, leb}
 use borrow.Author.Tests.{leb-true, eqb-true}
 use native.Mathlib.Omega.{arith}
+pub use Rattle.memory.proofs.Tests.{both}
 use Rattle.anomaly.specs.Table.{isAnomaly, isRefusal}
 
 -- ---- What the arms before it say ----
@@ -28,10 +29,6 @@ others-of others n low (suc count) none = others-of others n low count (none .0)
 pub either : (a b : Bool) → (a || b) ≡ true → (a ≡ true) ⊎ (b ≡ true)
 either true b h = inl refl
 either false b h = inr h
-
-pub both : (a b : Bool) → (a && b) ≡ true → (a ≡ true) × (b ≡ true)
-both true b h = (refl, h)
-both false b h = (h, cc)
 
 pub in-range : (low high n : ℕ) → (leb low n && leb n high) ≡ true → (low ≤ n) × (n ≤ high)
 in-range low high n h = let k = both (leb low n) (leb n high) h in (leb-true low n (k .0), leb-true n high (k .1))

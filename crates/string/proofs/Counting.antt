@@ -8,14 +8,11 @@ use native.Mathlib.Numerals.{add-one}
 use lib.ListN.{length, getD, drop, take, drop-of-length-le}
 use lib.Seq.{drop-cons, length-take-le}
 use lib.Dec.{leb, eqb}
-use borrow.Author.Tests.{eq-eqb, ne-eqb, eqb-true, le-leb, lt-leb, leb-true, leb-false}
+use borrow.Author.Tests.{eq-eqb, ne-eqb, eqb-true, leb-true}
+use Rattle.memory.proofs.Tests.{both, leb-minus}
 use Rattle.string.specs.declared.table.StrTable.{StrTable}
 use Rattle.string.specs.Payload.{reaches}
 use Rattle.string.specs.Sound.{slotCount, activeOk, one, filledIn, headerIn, headersIn, countOk, slotsOk, soundOf}
-
-halves : (a m : ℕ) (b : Bool) → a ≤ m → leb (a * 2) m ≡ b → leb a (m - a) ≡ b
-halves a m true k e = let q : a * 2 ≤ m = leb-true _ _ e in le-leb a (m - a) (omega arith)
-halves a m false k e = let q : m < a * 2 = leb-false _ _ e in lt-leb a (m - a) (omega arith)
 
 -- of the first i slots so many are filled, each with its header in pushed pages
 pub record Counting (base n : ℕ) (slots : List ℕ) (filled i : ℕ) : Type 0 where
@@ -78,7 +75,7 @@ module _ (base n : ℕ) (slots : List ℕ) where
       half-full e =
           let within = g .within in
           let few = g .few in
-          rw (all-heads h, all-filled h, eq-eqb filled len e) (halves len (length slots) _ (omega arith) refl)
+          rw (all-heads h, all-filled h, eq-eqb filled len e) (leb-minus len len (length slots) (len * 2) (omega arith) (omega arith))
 
 -- ---- what a sound table is
 
@@ -103,8 +100,4 @@ slot-power n e = at 64 6 refl _ (λ a. at 128 7 refl _ (λ b. at 256 8 refl _ (�
 
 pub active-within : (active lent : ℕ) → activeOk active lent ≡ true → active ≤ lent
 unfolding activeOk
-active-within active lent e = leb-true active lent (first (leb active lent) _ e)
-  where
-    first : (a b : Bool) → (a && b) ≡ true → a ≡ true
-    first true b e = refl
-    first false b e = e
+active-within active lent e = leb-true active lent (both (leb active lent) _ e .0)

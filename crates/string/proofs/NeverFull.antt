@@ -11,6 +11,7 @@ use lib.Pow.{pow-pos}
 use lib.Bits.{and-mask}
 use lib.Dec.{leb, eqb}
 use borrow.Author.Tests.{leb-true, leb-false, eqb-true, eqb-false, ne-eqb}
+use Rattle.memory.proofs.Tests.{both}
 use Rattle.string.specs.declared.table.Probe.{Probe}
 use Rattle.string.specs.declared.table.Probe.the-variants.{Found, Vacant, Full}
 use Rattle.string.specs.Table.{home, probe, lookup}
@@ -85,17 +86,13 @@ never-full hit t k len c p e h =
     let r = empty-slot t (omega arith) in
     meets hit t k p (r .at) (r .in-it) (r .is) c
 
-and-both : (a b : Bool) → (a && b) ≡ true → (a ≡ true) × (b ≡ true)
-and-both true b e = (refl, e)
-and-both false b e = let z : _≡_ {A = ℕ} 0 1 = cc in absurd (omega arith)
-
 -- probing a sound table that has slots comes to the value or to an empty slot
 pub probing-ends : (hit : ℕ → Bool) (base n : ℕ) (t : StrTable) (slots : List ℕ) (c : ℕ) → soundOf base n t slots ≡ true → (t .active ≡ 0 → ⊥) → lookup hit (take (t .active) slots) c ≡ Full → ⊥
 unfolding soundOf activeOk slotsOk countOk
 probing-ends hit base n t slots c e some =
-    let all = and-both (leb (t .active) (length slots) && (eqb (t .active) 0 || slotCount (t .active))) _ e in
-    let active = and-both (leb (t .active) (length slots)) _ (all .0) in
-    let counted = and-both (eqb (filledIn (take (t .active) slots)) (t .len)) _ (and-both (headersIn base n (take (t .active) slots)) _ (all .1) .1) in
+    let all = both (leb (t .active) (length slots) && (eqb (t .active) 0 || slotCount (t .active))) _ e in
+    let active = both (leb (t .active) (length slots)) _ (all .0) in
+    let counted = both (eqb (filledIn (take (t .active) slots)) (t .len)) _ (both (headersIn base n (take (t .active) slots)) _ (all .1) .1) in
     let long : length (take (t .active) slots) ≡ t .active = length-take-le (t .active) slots (leb-true _ _ (active .0)) in
     let power = slot-power (t .active) (rw (ne-eqb (t .active) 0 some) at (active .1)) in
     never-full hit (take (t .active) slots) (power .exponent) (t .len) c (long ∙ power .is) (eqb-true _ _ (counted .0)) (leb-true _ _ (counted .1))
