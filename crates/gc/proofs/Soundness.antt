@@ -20,9 +20,9 @@ module _ (g : Gc) (lent : ℕ) where
       all-false a b c d = simp and-false
 
   pub by-end : g .page < g .pushed
-      → (ltb 0 (g .pushed) && (eqb (g .pushed % pageSize) 0 && (leb (g .pushed) lent && (eqb (g .page % pageSize) 0 && leb (g .len) (g .pushed - g .page))))) ≡ soundOf g lent
+      → (eqb (g .pushed % pageSize) 0 && (leb (g .pushed) lent && (eqb (g .page % pageSize) 0 && leb (g .len) (g .pushed - g .page)))) ≡ soundOf g lent
   unfolding soundOf
-  by-end h = rw (lt-ltb (g .page) (g .pushed) h, leb-minus (g .len) (g .page) (g .pushed) (g .page + g .len) (omega arith) (omega arith)) refl
+  by-end h = rw (lt-ltb 0 (g .pushed) (omega arith), lt-ltb (g .page) (g .pushed) h, leb-minus (g .len) (g .page) (g .pushed) (g .page + g .len) (omega arith) (omega arith)) refl
 
 -- numbers that pass, in a heap that 10 has passed
 pub sound : (g : Gc) (heap : List ℕ) → g .base + length heap ≤ 2 ^ 48 → soundOf g (length heap) ≡ true → Sound g heap
