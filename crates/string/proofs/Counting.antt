@@ -1,7 +1,7 @@
 -- Passing over the slots for the test of 9: how many are filled, and where their headers lie. Assumes nothing.
 use mathlib.Core.Path.{_≡_, refl, sym, _∙_}
 use Prim.Native.Nat.{ℕ, _+_, _-_, _*_, _^_, _≤_, _<_}
-use mathlib.Core.Bool.{Bool, true, false, _&&_, _||_}
+use mathlib.Core.Bool.{Bool, true, false, cond, _&&_, _||_}
 use mathlib.Core.List.{List}
 use native.Mathlib.Omega.{arith}
 use native.Mathlib.Numerals.{add-one}
@@ -12,7 +12,7 @@ use borrow.Author.Tests.{eq-eqb, ne-eqb, eqb-true, leb-true}
 use Rattle.memory.proofs.Tests.{both, leb-minus}
 use Rattle.string.specs.declared.table.StrTable.{StrTable}
 use Rattle.string.specs.Payload.{reaches}
-use Rattle.string.specs.Sound.{slotCount, activeOk, one, filledIn, headerIn, headersIn, countOk, slotsOk, soundOf}
+use Rattle.string.specs.Sound.{slotCount, activeOk, filledIn, headerIn, headersIn, countOk, slotsOk, soundOf}
 
 -- of the first i slots so many are filled, each with its header in pushed pages
 pub record Counting (base n : ℕ) (slots : List ℕ) (filled i : ℕ) : Type 0 where
@@ -26,7 +26,7 @@ module _ (base n : ℕ) (slots : List ℕ) where
   counting-start = record { within = omega arith; few = omega arith; counts = omega arith; heads = refl }
 
   module _ (filled i : ℕ) (g : Counting base n slots filled i) where
-    count-turn : i < length slots → filledIn (drop i slots) ≡ one (eqb (getD slots i 0) 0) + filledIn (drop (i + 1) slots)
+    count-turn : i < length slots → filledIn (drop i slots) ≡ cond (eqb (getD slots i 0) 0) 0 1 + filledIn (drop (i + 1) slots)
     unfolding filledIn
     count-turn h = rw (add-one, drop-cons slots i 0) refl
 
@@ -35,7 +35,7 @@ module _ (base n : ℕ) (slots : List ℕ) where
     heads-turn h = rw (add-one, drop-cons slots i 0) refl
 
     pub counting-skip : (m : ℕ) → i < length slots → getD slots i 0 ≡ 0 → m ≡ filled → Counting base n slots m (i + 1)
-    unfolding one headerIn
+    unfolding headerIn
     counting-skip m h e q =
         let few = g .few in
         let counts = g .counts in
@@ -44,7 +44,7 @@ module _ (base n : ℕ) (slots : List ℕ) where
         record { within = omega arith; few = omega arith; counts = omega (arith, c, counts); heads = sym t ∙ g .heads }
 
     pub counting-one : (m : ℕ) → i < length slots → (getD slots i 0 ≡ 0 → ⊥) → reaches base n (getD slots i 0) 8 ≡ true → m ≡ filled + 1 → Counting base n slots m (i + 1)
-    unfolding one headerIn
+    unfolding headerIn
     counting-one m h e k q =
         let few = g .few in
         let counts = g .counts in

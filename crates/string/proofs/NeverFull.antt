@@ -1,7 +1,7 @@
 -- A table that is at most half full has an empty slot, and probing meets one. Assumes nothing.
 use mathlib.Core.Path.{_≡_, refl, sym, ap, _∙_}
 use Prim.Native.Nat.{ℕ, zero, suc, _+_, _-_, _*_, _%_, _^_, _≤_, _<_}
-use mathlib.Core.Bool.{Bool, true, false, _&&_, _||_}
+use mathlib.Core.Bool.{Bool, true, false, cond, _&&_, _||_}
 use mathlib.Core.List.{List, [], _∷_}
 use native.Mathlib.Omega.{arith}
 use native.Mathlib.Nat.{mod-eq-of-lt, mod-self}
@@ -15,7 +15,7 @@ use Rattle.memory.proofs.Tests.{both}
 use Rattle.string.specs.declared.table.Probe.{Probe}
 use Rattle.string.specs.declared.table.Probe.the-variants.{Found, Vacant, Full}
 use Rattle.string.specs.Table.{home, probe, lookup}
-use Rattle.string.specs.Sound.{one, filledIn, headersIn, activeOk, slotCount, countOk, slotsOk, soundOf}
+use Rattle.string.specs.Sound.{filledIn, headersIn, activeOk, slotCount, countOk, slotsOk, soundOf}
 use Rattle.string.specs.declared.table.StrTable.{StrTable}
 use Rattle.string.proofs.Counting.{slot-power}
 use Rattle.string.proofs.Probes.{home-lt, probe-vacant, probe-found, probe-next}
@@ -72,11 +72,11 @@ pub record Empty (t : List ℕ) : Type 0 where
   pub is : getD t at 0 ≡ 0
 
 pub empty-slot : (t : List ℕ) → filledIn t < length t → Empty t
-unfolding filledIn one
+unfolding filledIn
 empty-slot [] h = absurd (omega arith)
 empty-slot (v ∷ t) h = go (empty-slot t) _ refl h
   where
-    go : (filledIn t < length t → Empty t) → (b : Bool) → eqb v 0 ≡ b → one b + filledIn t < suc (length t) → Empty (v ∷ t)
+    go : (filledIn t < length t → Empty t) → (b : Bool) → eqb v 0 ≡ b → cond b 0 1 + filledIn t < suc (length t) → Empty (v ∷ t)
     go f true e k = record { at = 0; in-it = omega arith; is = eqb-true v 0 e }
     go f false e k = let r = f (omega arith) in record { at = suc (r .at); in-it = omega (arith, r .in-it); is = r .is }
 
