@@ -5,14 +5,13 @@ use mathlib.Core.Bool.{Bool, true, false, cond, _&&_, _||_}
 use mathlib.Core.List.{List}
 use native.Mathlib.Omega.{arith}
 use native.Mathlib.Numerals.{add-one}
-use lib.ListN.{length, getD, drop, take, drop-of-length-le}
-use lib.Seq.{drop-cons, length-take-le}
+use lib.ListN.{length, getD, drop, drop-of-length-le}
+use lib.Seq.{drop-cons}
 use lib.Dec.{leb, eqb}
 use borrow.Author.Tests.{eq-eqb, ne-eqb, eqb-true, leb-true}
 use Rattle.memory.proofs.Tests.{both, leb-minus}
-use Rattle.string.specs.declared.table.StrTable.{StrTable}
 use Rattle.string.specs.Payload.{reaches}
-use Rattle.string.specs.Sound.{slotCount, activeOk, filledIn, headerIn, headersIn, countOk, slotsOk, soundOf}
+use Rattle.string.specs.Sound.{slotCount, activeOk, filledIn, headerIn, headersIn, countOk, slotsOk}
 
 -- of the first i slots so many are filled, each with its header in pushed pages
 pub record Counting (base n : ℕ) (slots : List ℕ) (filled i : ℕ) : Type 0 where

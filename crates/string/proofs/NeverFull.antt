@@ -12,8 +12,7 @@ use lib.Bits.{and-mask}
 use lib.Dec.{leb, eqb}
 use borrow.Author.Tests.{leb-true, leb-false, eqb-true, eqb-false, ne-eqb}
 use Rattle.memory.proofs.Tests.{both}
-use Rattle.string.specs.declared.table.Probe.{Probe}
-use Rattle.string.specs.declared.table.Probe.the-variants.{Found, Vacant, Full}
+use Rattle.string.specs.declared.table.Probe.the-variants.{Full}
 use Rattle.string.specs.Table.{home, probe, lookup}
 use Rattle.string.specs.Sound.{filledIn, headersIn, activeOk, slotCount, countOk, slotsOk, soundOf}
 use Rattle.string.specs.declared.table.StrTable.{StrTable}

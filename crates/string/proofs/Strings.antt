@@ -16,7 +16,7 @@ use Rattle.memory.proofs.Over.{tail-home, write-append, length-write}
 use Rattle.memory.proofs.Bytes.{Bytes, bytes-take, bytes-drop, bytes-bytesOf, length-bytesOf, value-same}
 use Rattle.string.specs.declared.payload.Payload.{Payload}
 use Rattle.string.specs.declared.payload.Payload.the-variants.{At, Other}
-use Rattle.string.specs.Payload.{payloadOf, payloadSize, reaches, lengthAt, hashAt, bytesAt, headed, bytesFrom, holds, smallName}
+use Rattle.string.specs.Payload.{payloadOf, reaches, lengthAt, hashAt, headed, bytesFrom, holds, smallName}
 use Rattle.string.proofs.Small.{small-length, small-value}
 
 -- ---- written
