@@ -1,7 +1,6 @@
 -- Document 01, 'Ends and numbers': the number of each end and refusal, and what is returned with it. Definitions only.
 use Prim.Native.Nat.{ℕ}
 use mathlib.Core.Bool.{Bool, _&&_, _||_}
-use mathlib.Core.List.{List, [], _∷_}
 use lib.Dec.{eqb, leb}
 use Rattle.anomaly.specs.declared.Anomaly.{Anomaly}
 use Rattle.anomaly.specs.declared.Anomaly.the-variants.{DivisionByZero, AllocationFailed, StackOverflow, AssertionFailed, BadAddress, QuotientOverflow, FrameUnderflow}
@@ -68,13 +67,6 @@ numberOfEnd (Halt pc steps) = 0
 numberOfEnd (Budget pc steps) = 5
 numberOfEnd (Stopped why) = numberOfAnomaly why
 numberOfEnd (Refused why) = numberOfRefusal why
-
--- the column 'Returned': the number with pc and steps where a run was made, and the number alone where it was refused
-abbrev pub returned : End → List ℕ
-returned (Halt pc steps) = 0 ∷ pc ∷ steps ∷ []
-returned (Budget pc steps) = 5 ∷ pc ∷ steps ∷ []
-returned (Stopped why) = numberOfAnomaly why ∷ pcOfAnomaly why ∷ stepsOfAnomaly why ∷ []
-returned (Refused why) = numberOfRefusal why ∷ []
 
 -- pc and steps of an end; a refused call has neither, and 0 stands for both
 abbrev pub pcOfEnd : End → ℕ

@@ -81,7 +81,6 @@ impl Anomaly {
         }
     }
 
-    // The anomaly with a number.
     pub fn from_number(number: u64, pc: usize, steps: Steps) -> Self
         requires { ⌜ isAnomaly number ≡ true ⌝ }
         ensures { λ r. ⌜ (numberOfAnomaly r ≡ number) × (pcOfAnomaly r ≡ pc) × (stepsOfAnomaly r ≡ steps) ⌝ }
@@ -170,7 +169,6 @@ impl Refusal {
         }
     }
 
-    // The refusal with a number.
     pub fn from_number(number: u64) -> Self
         requires { ⌜ isRefusal number ≡ true ⌝ }
         ensures { λ r. ⌜ numberOfRefusal r ≡ number ⌝ }

@@ -175,5 +175,5 @@ rows =
     ∷ []
 
 pub all-hold : hold rows ≡ true
-unfolding rows hold lent startedIn started afterAll said summed singles shown switching calling worked bytesOf valueOf over write same signed pattern Int.divided bits isNan ofBits toBits ofInt toSigned mixed folded chunks hashOf smallHashOf payloadOf reaches headed holds home probe lookup never filled placed read storedHash movedOne moved enlarged roomOf widened roomy spared Table.slotCount Table.activeOk Table.one Table.filledIn Table.headerIn Table.headersIn Table.countOk Table.slotsOk Table.soundOf headerOf Pages.growOf Pages.gapOf Pages.holds Pages.block Pages.pushed Pages.fitted Pages.allocated pagesOf numbersOf Heap.soundOf Op.rows decodedBy decodeOf checkOf used lacking short setReg setPc setFrames setLand setPages setBytes startOf entriesOf counts rising tablesOk imageOk endsInHalt below wordTest wordTests imageTests divided jumpIf within slot switched effectOf provided forward addressed loaded stored8 returned took apply wordEffect fetched unless limited step after go root entered stored Names.filled Names.took Names.allocates Names.boxed Names.optional Names.entered Names.fresh Names.known Names.interned sizes landOf view withPages withNames traced withFrames withRegs ran idle runs hosted lightly laid runLeaves hostLeaves granted hostCall runCall act framesOk heapOk slotsOk returnsOk framesBelong pagesBelong namesBelong smallOk tests failing tried perform firstPage firstLand blank begin starts start
+unfolding rows hold lent startedIn started afterAll said summed singles shown switching calling worked bytesOf valueOf over write same signed pattern Int.divided bits isNan ofBits toBits ofInt toSigned mixed folded chunks hashOf smallHashOf payloadOf reaches headed holds home probe lookup never filled placed read storedHash movedOne moved enlarged roomOf widened roomy spared Table.slotCount Table.activeOk Table.filledIn Table.headerIn Table.headersIn Table.countOk Table.slotsOk Table.soundOf headerOf Pages.growOf Pages.gapOf Pages.holds Pages.block Pages.pushed Pages.fitted Pages.allocated pagesOf numbersOf Heap.soundOf Op.rows decodedBy decodeOf checkOf used lacking short setReg setPc setFrames setLand setPages setBytes startOf entriesOf counts rising tablesOk imageOk endsInHalt below wordTest wordTests imageTests divided jumpIf within slot switched effectOf provided forward addressed loaded stored8 returned took apply wordEffect fetched unless limited step after go root entered stored Names.filled Names.took Names.allocates Names.boxed Names.optional Names.entered Names.fresh Names.known Names.interned sizes landOf view withPages withNames traced withFrames withRegs ran idle runs hosted lightly laid runLeaves hostLeaves granted hostCall runCall act framesOk heapOk slotsOk returnsOk framesBelong pagesBelong namesBelong smallOk tests failing tried perform firstPage firstLand blank begin starts start
 all-hold = refl

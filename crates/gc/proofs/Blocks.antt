@@ -1,14 +1,14 @@
 -- Blocks and pages over a lent heap. Assumes nothing.
-use mathlib.Core.Path.{_≡_, refl, sym, ap, ap₂, _∙_}
+use mathlib.Core.Path.{_≡_, refl, sym, ap, _∙_}
 use Prim.Native.Nat.{ℕ, _+_, _-_, _*_, _/_, _≤_, _<_}
-use mathlib.Core.Bool.{Bool, true, false, not, _&&_, and-false, and-true}
+use mathlib.Core.Bool.{Bool, true, false, not, _&&_}
 use mathlib.Core.List.{List, _++_, append-assoc}
 use native.Mathlib.Omega.{arith}
 use lib.ListN.{length, take, drop, replicate, length-append, length-replicate, length-drop}
 use lib.Seq.{length-take-le, drop-drop}
 use lib.Dec.{leb, ltb}
 use borrow.Author.Tests.{le-leb, lt-leb, leb-true, leb-false, lt-ltb, le-ltb}
-use Rattle.memory.specs.Lists.{over, write}
+use Rattle.memory.specs.Lists.{over}
 use Rattle.memory.proofs.Over.{over-is, over-take, over-write, over-over, take-over, tail-home, length-over, length-write}
 use Rattle.gc.specs.declared.Gc.{Gc}
 use Rattle.gc.specs.declared.Alloc.{Alloc}
@@ -17,7 +17,7 @@ use Rattle.gc.specs.declared.Grown.{Grown}
 use Rattle.gc.specs.declared.Grown.the-variants.{To, Full}
 use Rattle.gc.specs.Metadata.{headerOf}
 use Rattle.gc.specs.Pages.{Pages, Block, growOf, gapOf, holds, block, pushed, fitted, allocated}
-use Rattle.gc.specs.Lent.{pageSize, pagesOf, numbersOf, fits, Outcome, outcome, granted, grantedIn, fastOf, slowOf, allocOf, refuses, Growth, growth, extended, extendedIn, Sound}
+use Rattle.gc.specs.Lent.{pageSize, pagesOf, numbersOf, fits, Outcome, outcome, granted, fastOf, slowOf, allocOf, refuses, Growth, growth, extended, extendedIn, Sound}
 use Rattle.gc.proofs.Growth.{grow-enough}
 use Rattle.gc.proofs.Headers.{header-length}
 

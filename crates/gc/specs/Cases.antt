@@ -1,8 +1,9 @@
--- Document 01's cases of 'gc.rs' in one table, and the one fact, by computation, that all its rows hold. Assumes nothing.
+-- Worked cases beside those that document 01 marks (P), which stand in `corners`: one table, and the one fact, by computation, that all its rows
+-- hold. Assumes nothing.
 use mathlib.Core.Path.{_≡_, refl}
 use mathlib.Core.Bool.{true}
 use mathlib.Core.List.{List, [], _∷_}
-use Prim.Native.Nat.{ℕ, _+_}
+use Prim.Native.Nat.{ℕ}
 use lib.ListN.{length, replicate}
 use Rattle.memory.specs.Bytes.{bytesOf}
 use Rattle.memory.specs.Lists.{over, write}
@@ -19,15 +20,9 @@ with-block n = allocated 4096 0 n started
 
 unfoldable pub rows : List (ℕ × ℕ)
 rows =
-    -- `grow` for size 4,072 makes 4,096 bytes, for 4,073 it makes 8,192
-    (growOf 4096 4072, 4096)
-    ∷ (growOf 4096 4073, 8192)
-    -- after a start, size 4,048 fits page 0
-    ∷ (with-block 4048 .address, 65536 + 48)
-    ∷ (with-block 4048 .pages .len, 4096)
-    ∷ (length (with-block 4048 .pages .bytes), 4096)
-    -- size 4,049 opens a page; the block is B+4,112
-    ∷ (with-block 4049 .address, 65536 + 4112)
+    -- after a start, size 4,048 fills page 0
+    (with-block 4048 .pages .len, 4096)
+    -- size 4,049 opens a page of 4,096 bytes behind it
     ∷ (with-block 4049 .pages .last, 4096)
     ∷ (length (with-block 4049 .pages .bytes), 8192)
     ∷ []

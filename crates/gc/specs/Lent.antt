@@ -76,7 +76,8 @@ unfoldable pub soundOf : Gc → ℕ → Bool
 soundOf g lent =
     ltb 0 (g .pushed) && (eqb (g .pushed % pageSize) 0 && (leb (g .pushed) lent && (eqb (g .page % pageSize) 0 && (ltb (g .page) (g .pushed) && leb (g .page + g .len) (g .pushed)))))
 
--- what 10 and 9 have tested before anything is allocated
+-- what allocating asks of the heap's numbers: it ends at 2 ^ 48 at the latest, the pages lie in it, and the last one's length in the pages. It
+-- is less than 9 tests: a start allocates before a page is pushed
 pub record Sound (g : Gc) (heap : List ℕ) : Type 0 where
   pub low : g .base + length heap ≤ 2 ^ 48
   pub in-heap : g .pushed ≤ length heap

@@ -1,5 +1,5 @@
 -- A block's header, `Metadata`: 16 bytes before the payload. Definitions only.
-use Prim.Native.Nat.{ℕ, _+_, _<_}
+use Prim.Native.Nat.{ℕ, _+_}
 use mathlib.Core.Bool.{Bool, true, false}
 use mathlib.Core.List.{List, _∷_, _++_}
 use lib.ListN.{replicate}
@@ -14,7 +14,7 @@ bitsOf Array = 1
 bitsOf Option = 2
 bitsOf String = 3
 
--- the type in the three lowest bits, the mark above them
+-- the type in the three lowest bits, and above them `MARKED_FLAG` of gc.rs
 abbrev pub flagsOf : AllocType → Bool → ℕ
 flagsOf t true = bitsOf t + 8
 flagsOf t false = bitsOf t

@@ -113,9 +113,8 @@ impl Gc {
         if pushed <= page {
             return false;
         }
-        (0 < pushed)
-            & ((pushed % PAGE_SIZE == 0)
-                & ((pushed <= lent) & ((page % PAGE_SIZE == 0) & (self.len <= pushed - page))))
+        (pushed % PAGE_SIZE == 0)
+            & ((pushed <= lent) & ((page % PAGE_SIZE == 0) & (self.len <= pushed - page)))
     }
 
     // A block in the last page, if that can hold it.

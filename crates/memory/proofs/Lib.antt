@@ -1,4 +1,5 @@
--- The laws of lists written over lists and of numbers as bytes.
+-- The laws of tests, of lists written over lists and of numbers as bytes.
+pub mod Tests
 pub mod Over
 pub mod Writes
 pub mod Bytes

@@ -1,6 +1,6 @@
 -- One write behind another. Assumes nothing.
 use mathlib.Core.Path.{_≡_, sym, _∙_}
-use Prim.Native.Nat.{ℕ, _+_}
+use Prim.Native.Nat.{ℕ}
 use mathlib.Core.List.{List, [], _++_}
 use native.Mathlib.Omega.{arith}
 use native.Mathlib.Nat.{add-zero}

@@ -1,5 +1,5 @@
-// Lent memory: little-endian numbers in bytes, copies and clears. Everything above reads and writes
-// the heap and the slots through these.
+// Lent memory: little-endian numbers in bytes, copies and clears. Every write to the heap goes through
+// these.
 ghost use mathlib.Core.Path.{_≡_};
 ghost use Prim.Native.Nat.{_+_, _≤_, _<_, _^_};
 ghost use lib.ListN.{length, replicate};

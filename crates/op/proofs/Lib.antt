@@ -3,5 +3,4 @@ pub mod Arms
 pub mod Masks
 pub mod Rows
 pub mod Checks
-pub mod Quiet
 pub mod Sound

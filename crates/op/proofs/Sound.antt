@@ -3,19 +3,17 @@
 use Prim.Native.Nat.{ℕ, zero, suc, _≤_, _<_, _^_}
 use mathlib.Core.Bool.{Bool, true, false, cond, _&&_}
 use mathlib.Core.List.{List, [], _∷_}
-use mathlib.Core.Path.{_≡_, refl, subst}
+use mathlib.Core.Path.{_≡_, refl}
 use native.Mathlib.Omega.{arith}
 use lib.Dec.{ltb}
 use lib.ListN.{getD}
 use borrow.Author.Tests.{ltb-true}
 use Rattle.op.specs.Layout.{Parts, partsOf, holds, passes, isAlignment, Field, unused, register, switchKind, allocKind, alignment, anyByte, anyNumber}
 use Rattle.op.specs.Decode.{Row, row, absent, rows, rowOf, checkedOf, decodedBy, decodeOf}
-use Rattle.op.specs.Reach.{reachOf, insideOf, within, judged, checkOf}
+use Rattle.op.specs.Reach.{Reach, Nothing, Code, Global, SwitchTable, LookupTable, reachOf, insideOf, within, judged, checkOf}
 use Rattle.op.specs.Operands.{okOp, Within}
 use Rattle.op.specs.declared.Op.{Op}
 use Rattle.op.specs.declared.Decoded.{Decoded}
-use Rattle.op.specs.declared.Reach.{Reach}
-use Rattle.op.specs.declared.Reach.the-variants.{Nothing, Code, Global, SwitchTable, LookupTable}
 use Rattle.op.specs.declared.Counts.{Counts}
 use Rattle.op.specs.declared.Checked.{Checked}
 use Rattle.anomaly.proofs.Numbers.{both}
@@ -208,14 +206,3 @@ module _ (n : Counts) (w : ℕ) where
 
   pub check-refuses : (k : ℕ) → checkOf n w ≡ Checked.Refused k → (12 ≤ k) × (k ≤ 15)
   check-refuses k h = rw h at ok-checked
-
-  -- what a loop knows of a checked word that it decoded
-  pub fine-op : (op : Op) → checkOf n w ≡ Checked.Fine → decodeOf w ≡ Decoded.Op op → okOp op × Within n (reachOf op)
-  fine-op op h e =
-      let runs = fine h in
-      let word = runs .decodes in
-      let same : runs .op ≡ op = cc in
-      (ok-op w op e, subst (λ (o : Op). Within n (reachOf o)) same (runs .there))
-
-  pub fine-decodes : (k : ℕ) → checkOf n w ≡ Checked.Fine → decodeOf w ≡ Decoded.Refused k → ⊥
-  fine-decodes k h e = let runs = fine h in let q = runs .decodes in let z : _≡_ {A = ℕ} 0 1 = cc in omega arith

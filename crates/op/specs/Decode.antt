@@ -17,9 +17,10 @@ pub data Row : Type 0 where
   absent : Row
 
 -- 'the place of the `Op` in op.rs, from 0 (IAdd) to 60 (Nop), all 61 numbered'. A second register beside a target is byte 4:
--- the number in bytes 4 to 7 is then below 32. Not carried are Sys, Native, Push to Pop3, StoreSlot and LoadSlot
+-- the number in bytes 4 to 7 is then below 32
 unfoldable pub rows : List Row
 rows =
+    -- 0: integer arithmetic
     row register register register unused (λ p. IAdd (p .one) (p .two) (p .three)) ∷
     row register register unused anyNumber (λ p. IAddI (p .one) (p .two) (p .signed)) ∷
     row register register register unused (λ p. ISub (p .one) (p .two) (p .three)) ∷
@@ -32,6 +33,7 @@ rows =
     row register register unused anyNumber (λ p. IModI (p .one) (p .two) (p .signed)) ∷
     row register register register unused (λ p. IAnd (p .one) (p .two) (p .three)) ∷
     row register register unused anyNumber (λ p. IAndI (p .one) (p .two) (p .signed)) ∷
+    -- 12: comparisons and doubles
     row register register register unused (λ p. ILt (p .one) (p .two) (p .three)) ∷
     row register register register unused (λ p. IGt (p .one) (p .two) (p .three)) ∷
     row register register register unused (λ p. IEq (p .one) (p .two) (p .three)) ∷
@@ -46,6 +48,7 @@ rows =
     row register register register unused (λ p. DGt (p .one) (p .two) (p .three)) ∷
     row register register register unused (λ p. BEq (p .one) (p .two) (p .three)) ∷
     row register register register unused (λ p. SEq (p .one) (p .two) (p .three)) ∷
+    -- 26: moves, jumps, tables and calls
     row register register unused unused (λ p. Mov (p .one) (p .two)) ∷
     row register unused unused anyNumber (λ p. LoadI (p .one) (p .signed)) ∷
     row register unused unused anyNumber (λ p. LoadG (p .one) (p .number)) ∷
@@ -60,6 +63,7 @@ rows =
     row register register switchKind anyNumber (λ p. Lookup (p .three) (p .one) (p .two) (p .number)) ∷
     row unused unused unused anyNumber (λ p. Tail (p .number)) ∷
     row unused unused unused anyNumber (λ p. Call (p .number)) ∷
+    -- 40: Sys, Native, Push to Pop3, StoreSlot and LoadSlot are not carried
     absent ∷
     absent ∷
     absent ∷
@@ -70,6 +74,7 @@ rows =
     absent ∷
     absent ∷
     absent ∷
+    -- 50: casts, memory, Ret, Assert, Halt and Nop
     row register register unused unused (λ p. CastToInt (p .one) (p .two)) ∷
     row register register unused unused (λ p. CastToDouble (p .one) (p .two)) ∷
     row register register unused unused (λ p. CastToBool (p .one) (p .two)) ∷

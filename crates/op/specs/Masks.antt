@@ -43,7 +43,7 @@ aligned anyNumber n = true
 abbrev pub allAligned : Field → Field → Field → Field → Parts → Bool
 allAligned one two three number p = aligned one (p .one) && aligned two (p .two) && aligned three (p .three) && aligned number (p .number)
 
--- what is answered of a word that has no bit of its mask
+-- what is answered of a word that has no bit of its mask; of a row that is not carried it is not asked
 unfoldable pub restOf : Row → Counts → Parts → Checked
 restOf (row one two three number op) n p = cond (allAligned one two three number p) (within n (reachOf (op p))) (Checked.Refused 13)
 restOf absent n p = Checked.Fine

@@ -9,8 +9,7 @@ use Rattle.op.specs.declared.Op.the-variants.{IAdd, IAddI, ISub, ISubI, 
 use Rattle.op.specs.declared.Op.the-variants.{ILt, IGt, IEq, IEqI, IGtI, ILtI, DAdd, DSub, DMul, DDiv, DLt, DGt, BEq, SEq}
 use Rattle.op.specs.declared.Op.the-variants.{Mov, LoadI, LoadG, Jmp, JmpT, JmpF, JmpEqI, JmpNeI, JmpSEq, JmpSNe, Switch, Lookup, Tail, Call}
 use Rattle.op.specs.declared.Op.the-variants.{CastToInt, CastToDouble, CastToBool, Alloc, Store, Load, AddrOf, Ret, Assert, Halt, Nop}
-use Rattle.op.specs.declared.Reach.{Reach}
-use Rattle.op.specs.declared.Reach.the-variants.{Nothing, Code, Global, SwitchTable, LookupTable}
+use Rattle.op.specs.Reach.{Reach, Nothing, Code, Global, SwitchTable, LookupTable}
 use Rattle.op.specs.declared.Counts.{Counts}
 
 -- `imm` and `value` may be any pattern

@@ -9,12 +9,14 @@ use Rattle.op.specs.declared.Op.the-variants.{ILt, IGt, IEq, IEqI, IGtI,
 use Rattle.op.specs.declared.Op.the-variants.{Mov, LoadI, LoadG, Jmp, JmpT, JmpF, JmpEqI, JmpNeI, JmpSEq, JmpSNe, Switch, Lookup, Tail, Call}
 use Rattle.op.specs.declared.Op.the-variants.{CastToInt, CastToDouble, CastToBool, Alloc, Store, Load, AddrOf, Ret, Assert, Halt, Nop}
 use Rattle.op.specs.declared.Decoded.{Decoded}
-use Rattle.op.specs.declared.Reach.{Reach}
-use Rattle.op.specs.declared.Reach.the-variants.{Nothing, Code, Global, SwitchTable, LookupTable}
 use Rattle.op.specs.declared.Counts.{Counts}
 use Rattle.op.specs.declared.Checked.{Checked}
 
--- what an instruction names by a number
+-- what an instruction names by a number: a place in the code, a global, or a table
+pub data Reach : Type 0 where
+  Nothing : Reach
+  Code Global SwitchTable LookupTable : ℕ → Reach
+
 abbrev pub reachOf : Op → Reach
 reachOf (IAdd dst lhs rhs) = Nothing
 reachOf (IAddI dst lhs imm) = Nothing

@@ -6,33 +6,28 @@ ghost use Prim.Native.Nat.{_%_};
 ghost use Rattle.op.specs.Layout.{partsOf, isAlignment};
 ghost use Rattle.op.specs.Decode.{rowOf};
 ghost use Rattle.op.specs.Masks.{maskOfRow, restOf};
-ghost use Rattle.op.specs.Reach.{checkOf, insideOf, reachOf};
+ghost use Rattle.op.specs.Reach.{checkOf, insideOf};
 use crate::Checked;
 use crate::Counts;
-use crate::Op;
-use crate::Reach;
 use crate::word::ALLOC;
 use crate::word::BARE;
 use crate::word::CONDITION;
 use crate::word::FUNCTION;
-use crate::word::GLOBAL;
-use crate::word::IMMEDIATE;
 use crate::word::JUMP;
 use crate::word::JUMP_IF;
 use crate::word::JUMP_IMMEDIATE;
 use crate::word::JUMP_TWO;
-use crate::word::LOAD;
 use crate::word::LOOKUP;
-use crate::word::STORE;
+use crate::word::ONE_AND_NUMBER;
 use crate::word::SWITCH;
 use crate::word::THREE;
 use crate::word::TWO;
-use crate::word::VALUE;
+use crate::word::TWO_AND_NUMBER;
+use crate::word::byte_three;
 use crate::word::fits;
 use crate::word::is_alignment;
-use crate::word::number;
 use crate::word::target;
-use crate::word::three;
+use crate::word::upper;
 use anomaly::Refusal;
 
 // No format has a bit of the opcode in its mask.
@@ -41,23 +36,23 @@ const ABSENT: u64 = 1;
 // The mask of each opcode.
 const MASK: [u64; 61] = [
     THREE, // IAdd
-    IMMEDIATE, // IAddI
+    TWO_AND_NUMBER, // IAddI
     THREE, // ISub
-    IMMEDIATE, // ISubI
+    TWO_AND_NUMBER, // ISubI
     THREE, // IMul
-    IMMEDIATE, // IMulI
+    TWO_AND_NUMBER, // IMulI
     THREE, // IDiv
-    IMMEDIATE, // IDivI
+    TWO_AND_NUMBER, // IDivI
     THREE, // IMod
-    IMMEDIATE, // IModI
+    TWO_AND_NUMBER, // IModI
     THREE, // IAnd
-    IMMEDIATE, // IAndI
+    TWO_AND_NUMBER, // IAndI
     THREE, // ILt
     THREE, // IGt
     THREE, // IEq
-    IMMEDIATE, // IEqI
-    IMMEDIATE, // IGtI
-    IMMEDIATE, // ILtI
+    TWO_AND_NUMBER, // IEqI
+    TWO_AND_NUMBER, // IGtI
+    TWO_AND_NUMBER, // ILtI
     THREE, // DAdd
     THREE, // DSub
     THREE, // DMul
@@ -67,8 +62,8 @@ const MASK: [u64; 61] = [
     THREE, // BEq
     THREE, // SEq
     TWO, // Mov
-    VALUE, // LoadI
-    GLOBAL, // LoadG
+    ONE_AND_NUMBER, // LoadI
+    ONE_AND_NUMBER, // LoadG
     JUMP, // Jmp
     JUMP_IF, // JmpT
     JUMP_IF, // JmpF
@@ -94,9 +89,9 @@ const MASK: [u64; 61] = [
     TWO, // CastToDouble
     TWO, // CastToBool
     ALLOC, // Alloc
-    STORE, // Store
-    LOAD, // Load
-    LOAD, // AddrOf
+    TWO_AND_NUMBER, // Store
+    TWO_AND_NUMBER, // Load
+    TWO_AND_NUMBER, // AddrOf
     BARE, // Ret
     CONDITION, // Assert
     BARE, // Halt
@@ -136,17 +131,17 @@ fn rest(w: u64, n: Counts) -> Checked
     let opcode = w % 256;
     match opcode {
         // LoadG
-        28 => inside(number(w), n.globals, Refusal::INDEX),
+        28 => inside(upper(w), n.globals, Refusal::INDEX),
         // Jmp to JmpSNe
         29..=35 => inside(target(w), n.code, Refusal::TARGET),
         // Switch
-        36 => inside(number(w), n.switches, Refusal::INDEX),
+        36 => inside(upper(w), n.switches, Refusal::INDEX),
         // Lookup
-        37 => inside(number(w), n.lookups, Refusal::INDEX),
+        37 => inside(upper(w), n.lookups, Refusal::INDEX),
         // Tail, Call
-        38..=39 => inside(number(w), n.code, Refusal::TARGET),
+        38..=39 => inside(upper(w), n.code, Refusal::TARGET),
         // Alloc
-        53 => aligned(three(w)),
+        53 => aligned(byte_three(w)),
         _ => Checked::Fine,
     }
 }
@@ -162,26 +157,5 @@ pub fn check(w: u64, n: Counts) -> Checked
         rest(w, n)
     } else {
         Checked::Refused(Refusal::OPERAND)
-    }
-}
-
-impl Op {
-    pub fn reach(self) -> Reach
-        ensures { λ r. ⌜ r ≡ reachOf self ⌝ }
-    {
-        match self {
-            Op::LoadG { idx, .. } => Reach::Global(idx),
-            Op::Jmp { target }
-            | Op::JmpT { target, .. }
-            | Op::JmpF { target, .. }
-            | Op::JmpEqI { target, .. }
-            | Op::JmpNeI { target, .. }
-            | Op::JmpSEq { target, .. }
-            | Op::JmpSNe { target, .. } => Reach::Code(target),
-            Op::Switch { table, .. } => Reach::SwitchTable(table),
-            Op::Lookup { table, .. } => Reach::LookupTable(table),
-            Op::Tail { func } | Op::Call { func } => Reach::Code(func),
-            _ => Reach::Nothing,
-        }
     }
 }

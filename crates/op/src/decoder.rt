@@ -1,5 +1,6 @@
 // From a word to its instruction. `decode` is for the loop of a run alone, and each function here for the range of opcodes that
-// its one caller gives it: the compiler then puts them all into the loop. A second caller would make the loop slower.
+// its one caller gives it: the compiler then puts them all into the loop. A second caller would make the loop slower, and so would
+// a function or a table for each format: one long match a range of opcodes is what ran fastest (docs/DECISIONS.md, 20 and 21).
 ghost use mathlib.Core.Path.{_≡_};
 ghost use Prim.Native.Nat.{_%_, _<_, _≤_};
 ghost use Rattle.op.specs.Decode.{decodeOf, checkedOf};
@@ -8,27 +9,24 @@ use crate::Op;
 use crate::word::BARE;
 use crate::word::CONDITION;
 use crate::word::FUNCTION;
-use crate::word::GLOBAL;
-use crate::word::IMMEDIATE;
 use crate::word::JUMP;
 use crate::word::JUMP_IF;
 use crate::word::JUMP_IMMEDIATE;
 use crate::word::JUMP_TWO;
-use crate::word::LOAD;
 use crate::word::LOOKUP;
-use crate::word::STORE;
+use crate::word::ONE_AND_NUMBER;
 use crate::word::SWITCH;
 use crate::word::THREE;
 use crate::word::TWO;
-use crate::word::VALUE;
+use crate::word::TWO_AND_NUMBER;
+use crate::word::byte_one;
+use crate::word::byte_three;
+use crate::word::byte_two;
 use crate::word::fits;
 use crate::word::fits_alloc;
-use crate::word::number;
-use crate::word::one;
-use crate::word::signed;
 use crate::word::target;
-use crate::word::three;
-use crate::word::two;
+use crate::word::upper;
+use crate::word::upper_signed;
 use anomaly::Refusal;
 
 fn checked(fits: bool, op: Op) -> Decoded
@@ -51,97 +49,97 @@ fn integer_arithmetic(w: u64) -> Decoded
         0 => checked(
             fits(w, THREE),
             Op::IAdd {
-                dst: one(w),
-                lhs: two(w),
-                rhs: three(w),
+                dst: byte_one(w),
+                lhs: byte_two(w),
+                rhs: byte_three(w),
             },
         ),
         1 => checked(
-            fits(w, IMMEDIATE),
+            fits(w, TWO_AND_NUMBER),
             Op::IAddI {
-                dst: one(w),
-                lhs: two(w),
-                imm: signed(w),
+                dst: byte_one(w),
+                lhs: byte_two(w),
+                imm: upper_signed(w),
             },
         ),
         2 => checked(
             fits(w, THREE),
             Op::ISub {
-                dst: one(w),
-                lhs: two(w),
-                rhs: three(w),
+                dst: byte_one(w),
+                lhs: byte_two(w),
+                rhs: byte_three(w),
             },
         ),
         3 => checked(
-            fits(w, IMMEDIATE),
+            fits(w, TWO_AND_NUMBER),
             Op::ISubI {
-                dst: one(w),
-                lhs: two(w),
-                imm: signed(w),
+                dst: byte_one(w),
+                lhs: byte_two(w),
+                imm: upper_signed(w),
             },
         ),
         4 => checked(
             fits(w, THREE),
             Op::IMul {
-                dst: one(w),
-                lhs: two(w),
-                rhs: three(w),
+                dst: byte_one(w),
+                lhs: byte_two(w),
+                rhs: byte_three(w),
             },
         ),
         5 => checked(
-            fits(w, IMMEDIATE),
+            fits(w, TWO_AND_NUMBER),
             Op::IMulI {
-                dst: one(w),
-                lhs: two(w),
-                imm: signed(w),
+                dst: byte_one(w),
+                lhs: byte_two(w),
+                imm: upper_signed(w),
             },
         ),
         6 => checked(
             fits(w, THREE),
             Op::IDiv {
-                dst: one(w),
-                lhs: two(w),
-                rhs: three(w),
+                dst: byte_one(w),
+                lhs: byte_two(w),
+                rhs: byte_three(w),
             },
         ),
         7 => checked(
-            fits(w, IMMEDIATE),
+            fits(w, TWO_AND_NUMBER),
             Op::IDivI {
-                dst: one(w),
-                lhs: two(w),
-                imm: signed(w),
+                dst: byte_one(w),
+                lhs: byte_two(w),
+                imm: upper_signed(w),
             },
         ),
         8 => checked(
             fits(w, THREE),
             Op::IMod {
-                dst: one(w),
-                lhs: two(w),
-                rhs: three(w),
+                dst: byte_one(w),
+                lhs: byte_two(w),
+                rhs: byte_three(w),
             },
         ),
         9 => checked(
-            fits(w, IMMEDIATE),
+            fits(w, TWO_AND_NUMBER),
             Op::IModI {
-                dst: one(w),
-                lhs: two(w),
-                imm: signed(w),
+                dst: byte_one(w),
+                lhs: byte_two(w),
+                imm: upper_signed(w),
             },
         ),
         10 => checked(
             fits(w, THREE),
             Op::IAnd {
-                dst: one(w),
-                lhs: two(w),
-                rhs: three(w),
+                dst: byte_one(w),
+                lhs: byte_two(w),
+                rhs: byte_three(w),
             },
         ),
         _ => checked(
-            fits(w, IMMEDIATE),
+            fits(w, TWO_AND_NUMBER),
             Op::IAndI {
-                dst: one(w),
-                lhs: two(w),
-                imm: signed(w),
+                dst: byte_one(w),
+                lhs: byte_two(w),
+                imm: upper_signed(w),
             },
         ),
     }
@@ -157,113 +155,113 @@ fn comparisons_and_doubles(w: u64) -> Decoded
         12 => checked(
             fits(w, THREE),
             Op::ILt {
-                dst: one(w),
-                lhs: two(w),
-                rhs: three(w),
+                dst: byte_one(w),
+                lhs: byte_two(w),
+                rhs: byte_three(w),
             },
         ),
         13 => checked(
             fits(w, THREE),
             Op::IGt {
-                dst: one(w),
-                lhs: two(w),
-                rhs: three(w),
+                dst: byte_one(w),
+                lhs: byte_two(w),
+                rhs: byte_three(w),
             },
         ),
         14 => checked(
             fits(w, THREE),
             Op::IEq {
-                dst: one(w),
-                lhs: two(w),
-                rhs: three(w),
+                dst: byte_one(w),
+                lhs: byte_two(w),
+                rhs: byte_three(w),
             },
         ),
         15 => checked(
-            fits(w, IMMEDIATE),
+            fits(w, TWO_AND_NUMBER),
             Op::IEqI {
-                dst: one(w),
-                lhs: two(w),
-                imm: signed(w),
+                dst: byte_one(w),
+                lhs: byte_two(w),
+                imm: upper_signed(w),
             },
         ),
         16 => checked(
-            fits(w, IMMEDIATE),
+            fits(w, TWO_AND_NUMBER),
             Op::IGtI {
-                dst: one(w),
-                lhs: two(w),
-                imm: signed(w),
+                dst: byte_one(w),
+                lhs: byte_two(w),
+                imm: upper_signed(w),
             },
         ),
         17 => checked(
-            fits(w, IMMEDIATE),
+            fits(w, TWO_AND_NUMBER),
             Op::ILtI {
-                dst: one(w),
-                lhs: two(w),
-                imm: signed(w),
+                dst: byte_one(w),
+                lhs: byte_two(w),
+                imm: upper_signed(w),
             },
         ),
         18 => checked(
             fits(w, THREE),
             Op::DAdd {
-                dst: one(w),
-                lhs: two(w),
-                rhs: three(w),
+                dst: byte_one(w),
+                lhs: byte_two(w),
+                rhs: byte_three(w),
             },
         ),
         19 => checked(
             fits(w, THREE),
             Op::DSub {
-                dst: one(w),
-                lhs: two(w),
-                rhs: three(w),
+                dst: byte_one(w),
+                lhs: byte_two(w),
+                rhs: byte_three(w),
             },
         ),
         20 => checked(
             fits(w, THREE),
             Op::DMul {
-                dst: one(w),
-                lhs: two(w),
-                rhs: three(w),
+                dst: byte_one(w),
+                lhs: byte_two(w),
+                rhs: byte_three(w),
             },
         ),
         21 => checked(
             fits(w, THREE),
             Op::DDiv {
-                dst: one(w),
-                lhs: two(w),
-                rhs: three(w),
+                dst: byte_one(w),
+                lhs: byte_two(w),
+                rhs: byte_three(w),
             },
         ),
         22 => checked(
             fits(w, THREE),
             Op::DLt {
-                dst: one(w),
-                lhs: two(w),
-                rhs: three(w),
+                dst: byte_one(w),
+                lhs: byte_two(w),
+                rhs: byte_three(w),
             },
         ),
         23 => checked(
             fits(w, THREE),
             Op::DGt {
-                dst: one(w),
-                lhs: two(w),
-                rhs: three(w),
+                dst: byte_one(w),
+                lhs: byte_two(w),
+                rhs: byte_three(w),
             },
         ),
         24 => checked(
             fits(w, THREE),
             Op::BEq {
-                dst: one(w),
-                lhs: two(w),
-                rhs: three(w),
+                dst: byte_one(w),
+                lhs: byte_two(w),
+                rhs: byte_three(w),
             },
         ),
         _ => checked(
             fits(w, THREE),
             Op::SEq {
-                dst: one(w),
-                lhs: two(w),
-                rhs: three(w),
+                dst: byte_one(w),
+                lhs: byte_two(w),
+                rhs: byte_three(w),
             },
         ),
     }
@@ -279,90 +277,90 @@ fn moves_and_jumps(w: u64) -> Decoded
         26 => checked(
             fits(w, TWO),
             Op::Mov {
-                dst: one(w),
-                src: two(w),
+                dst: byte_one(w),
+                src: byte_two(w),
             },
         ),
         27 => checked(
-            fits(w, VALUE),
+            fits(w, ONE_AND_NUMBER),
             Op::LoadI {
-                dst: one(w),
-                value: signed(w),
+                dst: byte_one(w),
+                value: upper_signed(w),
             },
         ),
         28 => checked(
-            fits(w, GLOBAL),
+            fits(w, ONE_AND_NUMBER),
             Op::LoadG {
-                dst: one(w),
-                idx: number(w),
+                dst: byte_one(w),
+                idx: upper(w),
             },
         ),
         29 => checked(fits(w, JUMP), Op::Jmp { target: target(w) }),
         30 => checked(
             fits(w, JUMP_IF),
             Op::JmpT {
-                cond: one(w),
+                cond: byte_one(w),
                 target: target(w),
             },
         ),
         31 => checked(
             fits(w, JUMP_IF),
             Op::JmpF {
-                cond: one(w),
+                cond: byte_one(w),
                 target: target(w),
             },
         ),
         32 => checked(
             fits(w, JUMP_IMMEDIATE),
             Op::JmpEqI {
-                lhs: one(w),
-                imm: signed(w),
+                lhs: byte_one(w),
+                imm: upper_signed(w),
                 target: target(w),
             },
         ),
         33 => checked(
             fits(w, JUMP_IMMEDIATE),
             Op::JmpNeI {
-                lhs: one(w),
-                imm: signed(w),
+                lhs: byte_one(w),
+                imm: upper_signed(w),
                 target: target(w),
             },
         ),
         34 => checked(
             fits(w, JUMP_TWO),
             Op::JmpSEq {
-                lhs: one(w),
-                rhs: number(w),
+                lhs: byte_one(w),
+                rhs: upper(w),
                 target: target(w),
             },
         ),
         35 => checked(
             fits(w, JUMP_TWO),
             Op::JmpSNe {
-                lhs: one(w),
-                rhs: number(w),
+                lhs: byte_one(w),
+                rhs: upper(w),
                 target: target(w),
             },
         ),
         36 => checked(
             fits(w, SWITCH),
             Op::Switch {
-                kind: one(w) as u64,
-                subject: two(w),
-                table: number(w),
+                kind: byte_one(w) as u64,
+                subject: byte_two(w),
+                table: upper(w),
             },
         ),
         37 => checked(
             fits(w, LOOKUP),
             Op::Lookup {
-                kind: three(w) as u64,
-                dst: one(w),
-                subject: two(w),
-                table: number(w),
+                kind: byte_three(w) as u64,
+                dst: byte_one(w),
+                subject: byte_two(w),
+                table: upper(w),
             },
         ),
-        38 => checked(fits(w, FUNCTION), Op::Tail { func: number(w) }),
-        _ => checked(fits(w, FUNCTION), Op::Call { func: number(w) }),
+        38 => checked(fits(w, FUNCTION), Op::Tail { func: upper(w) }),
+        _ => checked(fits(w, FUNCTION), Op::Call { func: upper(w) }),
     }
 }
 
@@ -376,59 +374,59 @@ fn casts_and_memory(w: u64) -> Decoded
         50 => checked(
             fits(w, TWO),
             Op::CastToInt {
-                dst: one(w),
-                src: two(w),
+                dst: byte_one(w),
+                src: byte_two(w),
             },
         ),
         51 => checked(
             fits(w, TWO),
             Op::CastToDouble {
-                dst: one(w),
-                src: two(w),
+                dst: byte_one(w),
+                src: byte_two(w),
             },
         ),
         52 => checked(
             fits(w, TWO),
             Op::CastToBool {
-                dst: one(w),
-                src: two(w),
+                dst: byte_one(w),
+                src: byte_two(w),
             },
         ),
         53 => checked(
             fits_alloc(w),
             Op::Alloc {
-                dst: one(w),
-                kind: two(w) as u64,
-                size: number(w) as u64,
-                align: three(w) as u64,
+                dst: byte_one(w),
+                kind: byte_two(w) as u64,
+                size: upper(w) as u64,
+                align: byte_three(w) as u64,
             },
         ),
         54 => checked(
-            fits(w, STORE),
+            fits(w, TWO_AND_NUMBER),
             Op::Store {
-                base: one(w),
-                offset: number(w) as u64,
-                src: two(w), // the second register
+                base: byte_one(w),
+                offset: upper(w) as u64,
+                src: byte_two(w),
             },
         ),
         55 => checked(
-            fits(w, LOAD),
+            fits(w, TWO_AND_NUMBER),
             Op::Load {
-                dst: one(w),
-                base: two(w),
-                offset: number(w) as u64,
+                dst: byte_one(w),
+                base: byte_two(w),
+                offset: upper(w) as u64,
             },
         ),
         56 => checked(
-            fits(w, LOAD),
+            fits(w, TWO_AND_NUMBER),
             Op::AddrOf {
-                dst: one(w),
-                base: two(w),
-                offset: number(w) as u64,
+                dst: byte_one(w),
+                base: byte_two(w),
+                offset: upper(w) as u64,
             },
         ),
         57 => checked(fits(w, BARE), Op::Ret),
-        58 => checked(fits(w, CONDITION), Op::Assert { cond: one(w) }),
+        58 => checked(fits(w, CONDITION), Op::Assert { cond: byte_one(w) }),
         59 => checked(fits(w, BARE), Op::Halt),
         _ => checked(fits(w, BARE), Op::Nop),
     }

@@ -189,7 +189,7 @@ pub enum Op {
         lhs: Reg,
         rhs: Reg,
     },
-    // r[dst] = r[lhs] == r[rhs], as strings
+    // r[dst] = r[lhs] == r[rhs], by value: equal names share one address
     SEq {
         dst: Reg,
         lhs: Reg,
@@ -236,13 +236,13 @@ pub enum Op {
         imm: u64,
         target: usize,
     },
-    // if r[lhs] == r[rhs] { pc = target }, as strings
+    // if r[lhs] == r[rhs] { pc = target }, by value: equal names share one address
     JmpSEq {
         lhs: Reg,
         rhs: Reg,
         target: usize,
     },
-    // if r[lhs] != r[rhs] { pc = target }, as strings
+    // if r[lhs] != r[rhs] { pc = target }, by value
     JmpSNe {
         lhs: Reg,
         rhs: Reg,
@@ -324,25 +324,14 @@ pub enum Op {
 impl Op {
     // The opcode that code ends with.
     pub const HALT: u64 = 59;
-    // The kinds of keys that a Switch or a Lookup has.
+    // The kind of a Switch or a Lookup whose keys are strings.
     pub const STR: u64 = 0;
-
-    pub const INT: u64 = 1;
 }
 
 // What a word means.
 pub enum Decoded {
     Op(Op),
     Refused(u64),
-}
-
-// What an instruction names by a number: a place in the code, a global, or a table.
-pub enum Reach {
-    Nothing,
-    Code(usize),
-    Global(usize),
-    SwitchTable(usize),
-    LookupTable(usize),
 }
 
 // How many words, globals and tables of each kind an image has.

@@ -5,18 +5,16 @@ ghost use lib.Dec.{eqb};
 ghost use Rattle.op.specs.Layout.{partsOf, passes, isAlignment};
 ghost use Rattle.op.specs.Layout.{register, allocKind, alignment, anyNumber};
 
-// A mask for each line of the picture at the head of the crate: the bits that are zero in its words. A byte of it is ff where
+// A mask for each shape in the picture at the head of the crate: the bits that are zero in its words. A byte of it is ff where
 // the picture is empty, e0 for a register (below 32), fe for the kind of a table's keys (below 2), fc for the kind of a block
 // (below 4), and 00 for the opcode and what may hold any byte. A register in bytes 4 to 7 is ffff_ffe0.
 pub const THREE: u64 = 0xffff_ffff_e0e0_e000;
 
-pub const IMMEDIATE: u64 = 0x0000_0000_ffe0_e000;
+pub const TWO_AND_NUMBER: u64 = 0x0000_0000_ffe0_e000;
 
 pub const TWO: u64 = 0xffff_ffff_ffe0_e000;
 
-pub const VALUE: u64 = 0x0000_0000_ffff_e000;
-
-pub const GLOBAL: u64 = 0x0000_0000_ffff_e000;
+pub const ONE_AND_NUMBER: u64 = 0x0000_0000_ffff_e000;
 
 pub const JUMP: u64 = 0xffff_ffff_0000_ff00;
 
@@ -34,10 +32,6 @@ pub const FUNCTION: u64 = 0x0000_0000_ffff_ff00;
 
 pub const ALLOC: u64 = 0x0000_0000_00fc_e000;
 
-pub const STORE: u64 = 0x0000_0000_ffe0_e000;
-
-pub const LOAD: u64 = 0x0000_0000_ffe0_e000;
-
 pub const CONDITION: u64 = 0xffff_ffff_ffff_e000;
 
 pub const BARE: u64 = 0xffff_ffff_ffff_ff00;
@@ -48,22 +42,19 @@ pub fn fits(w: u64, mask: u64) -> bool
     w & mask == 0
 }
 
-// Byte 1.
-pub fn one(w: u64) -> usize
+pub fn byte_one(w: u64) -> usize
     ensures { λ r. ⌜ r ≡ partsOf w .one ⌝ }
 {
     (w / 256 % 256) as usize
 }
 
-// Byte 2.
-pub fn two(w: u64) -> usize
+pub fn byte_two(w: u64) -> usize
     ensures { λ r. ⌜ r ≡ partsOf w .two ⌝ }
 {
     (w / 65536 % 256) as usize
 }
 
-// Byte 3.
-pub fn three(w: u64) -> usize
+pub fn byte_three(w: u64) -> usize
     ensures { λ r. ⌜ r ≡ partsOf w .three ⌝ }
 {
     (w / 16777216 % 256) as usize
@@ -77,14 +68,14 @@ pub fn target(w: u64) -> usize
 }
 
 // Bytes 4 to 7.
-pub fn number(w: u64) -> usize
+pub fn upper(w: u64) -> usize
     ensures { λ r. ⌜ r ≡ partsOf w .number ⌝ }
 {
     (w / 4294967296 % 4294967296) as usize
 }
 
-// Bytes 4 to 7, as the 64-bit pattern of a signed number.
-pub fn signed(w: u64) -> u64
+// As the 64-bit pattern of a signed number.
+pub fn upper_signed(w: u64) -> u64
     ensures { λ r. ⌜ r ≡ partsOf w .signed ⌝ }
 {
     std::num::wrapping_sub_u64((w / 4294967296 + 2147483648) % 4294967296, 2147483648)
@@ -100,5 +91,5 @@ pub fn is_alignment(n: usize) -> bool
 pub fn fits_alloc(w: u64) -> bool
     ensures { λ r. ⌜ r ≡ passes register allocKind alignment anyNumber (partsOf w) ⌝ }
 {
-    fits(w, ALLOC) & is_alignment(three(w))
+    fits(w, ALLOC) & is_alignment(byte_three(w))
 }

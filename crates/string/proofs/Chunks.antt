@@ -4,8 +4,8 @@ use mathlib.Core.List.{List, [], _∷_}
 use Prim.Native.Nat.{ℕ, zero, suc, _+_, _-_, _≤_, _<_}
 use native.Mathlib.Nat.{not-suc-le-zero, le-of-suc-le-suc, le-refl, le-trans}
 use native.Mathlib.Omega.{arith}
-use lib.ListN.{length, take, drop, length-drop, drop-of-length-le}
-use lib.Seq.{take-all, drop-drop, drop-length}
+use lib.ListN.{length, take, drop, length-drop}
+use lib.Seq.{take-all, drop-drop}
 use Rattle.memory.specs.Bytes.{valueOf, number}
 use Rattle.string.specs.Hash.{mixed, folded, chunks, hashOf}
 

@@ -1,21 +1,17 @@
 -- Passing over the slots for the test of 9: how many are filled, and where their headers lie. Assumes nothing.
 use mathlib.Core.Path.{_≡_, refl, sym, _∙_}
 use Prim.Native.Nat.{ℕ, _+_, _-_, _*_, _^_, _≤_, _<_}
-use mathlib.Core.Bool.{Bool, true, false, _&&_, _||_}
+use mathlib.Core.Bool.{Bool, true, false, cond, _&&_, _||_}
 use mathlib.Core.List.{List}
 use native.Mathlib.Omega.{arith}
 use native.Mathlib.Numerals.{add-one}
-use lib.ListN.{length, getD, drop, take, drop-of-length-le}
-use lib.Seq.{drop-cons, length-take-le}
+use lib.ListN.{length, getD, drop, drop-of-length-le}
+use lib.Seq.{drop-cons}
 use lib.Dec.{leb, eqb}
-use borrow.Author.Tests.{eq-eqb, ne-eqb, eqb-true, le-leb, lt-leb, leb-true, leb-false}
-use Rattle.string.specs.declared.table.StrTable.{StrTable}
+use borrow.Author.Tests.{eq-eqb, ne-eqb, eqb-true, leb-true}
+use Rattle.memory.proofs.Tests.{both, leb-minus}
 use Rattle.string.specs.Payload.{reaches}
-use Rattle.string.specs.Sound.{slotCount, activeOk, one, filledIn, headerIn, headersIn, countOk, slotsOk, soundOf}
-
-halves : (a m : ℕ) (b : Bool) → a ≤ m → leb (a * 2) m ≡ b → leb a (m - a) ≡ b
-halves a m true k e = let q : a * 2 ≤ m = leb-true _ _ e in le-leb a (m - a) (omega arith)
-halves a m false k e = let q : m < a * 2 = leb-false _ _ e in lt-leb a (m - a) (omega arith)
+use Rattle.string.specs.Sound.{slotCount, activeOk, filledIn, headerIn, headersIn, countOk, slotsOk}
 
 -- of the first i slots so many are filled, each with its header in pushed pages
 pub record Counting (base n : ℕ) (slots : List ℕ) (filled i : ℕ) : Type 0 where
@@ -29,7 +25,7 @@ module _ (base n : ℕ) (slots : List ℕ) where
   counting-start = record { within = omega arith; few = omega arith; counts = omega arith; heads = refl }
 
   module _ (filled i : ℕ) (g : Counting base n slots filled i) where
-    count-turn : i < length slots → filledIn (drop i slots) ≡ one (eqb (getD slots i 0) 0) + filledIn (drop (i + 1) slots)
+    count-turn : i < length slots → filledIn (drop i slots) ≡ cond (eqb (getD slots i 0) 0) 0 1 + filledIn (drop (i + 1) slots)
     unfolding filledIn
     count-turn h = rw (add-one, drop-cons slots i 0) refl
 
@@ -38,7 +34,7 @@ module _ (base n : ℕ) (slots : List ℕ) where
     heads-turn h = rw (add-one, drop-cons slots i 0) refl
 
     pub counting-skip : (m : ℕ) → i < length slots → getD slots i 0 ≡ 0 → m ≡ filled → Counting base n slots m (i + 1)
-    unfolding one headerIn
+    unfolding headerIn
     counting-skip m h e q =
         let few = g .few in
         let counts = g .counts in
@@ -47,7 +43,7 @@ module _ (base n : ℕ) (slots : List ℕ) where
         record { within = omega arith; few = omega arith; counts = omega (arith, c, counts); heads = sym t ∙ g .heads }
 
     pub counting-one : (m : ℕ) → i < length slots → (getD slots i 0 ≡ 0 → ⊥) → reaches base n (getD slots i 0) 8 ≡ true → m ≡ filled + 1 → Counting base n slots m (i + 1)
-    unfolding one headerIn
+    unfolding headerIn
     counting-one m h e k q =
         let few = g .few in
         let counts = g .counts in
@@ -78,7 +74,7 @@ module _ (base n : ℕ) (slots : List ℕ) where
       half-full e =
           let within = g .within in
           let few = g .few in
-          rw (all-heads h, all-filled h, eq-eqb filled len e) (halves len (length slots) _ (omega arith) refl)
+          rw (all-heads h, all-filled h, eq-eqb filled len e) (leb-minus len len (length slots) (len * 2) (omega arith) (omega arith))
 
 -- ---- what a sound table is
 
@@ -103,8 +99,4 @@ slot-power n e = at 64 6 refl _ (λ a. at 128 7 refl _ (λ b. at 256 8 refl _ (�
 
 pub active-within : (active lent : ℕ) → activeOk active lent ≡ true → active ≤ lent
 unfolding activeOk
-active-within active lent e = leb-true active lent (first (leb active lent) _ e)
-  where
-    first : (a b : Bool) → (a && b) ≡ true → a ≡ true
-    first true b e = refl
-    first false b e = e
+active-within active lent e = leb-true active lent (both (leb active lent) _ e .0)

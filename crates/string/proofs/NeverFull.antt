@@ -1,7 +1,7 @@
 -- A table that is at most half full has an empty slot, and probing meets one. Assumes nothing.
 use mathlib.Core.Path.{_≡_, refl, sym, ap, _∙_}
 use Prim.Native.Nat.{ℕ, zero, suc, _+_, _-_, _*_, _%_, _^_, _≤_, _<_}
-use mathlib.Core.Bool.{Bool, true, false, _&&_, _||_}
+use mathlib.Core.Bool.{Bool, true, false, cond, _&&_, _||_}
 use mathlib.Core.List.{List, [], _∷_}
 use native.Mathlib.Omega.{arith}
 use native.Mathlib.Nat.{mod-eq-of-lt, mod-self}
@@ -11,10 +11,10 @@ use lib.Pow.{pow-pos}
 use lib.Bits.{and-mask}
 use lib.Dec.{leb, eqb}
 use borrow.Author.Tests.{leb-true, leb-false, eqb-true, eqb-false, ne-eqb}
-use Rattle.string.specs.declared.table.Probe.{Probe}
-use Rattle.string.specs.declared.table.Probe.the-variants.{Found, Vacant, Full}
+use Rattle.memory.proofs.Tests.{both}
+use Rattle.string.specs.declared.table.Probe.the-variants.{Full}
 use Rattle.string.specs.Table.{home, probe, lookup}
-use Rattle.string.specs.Sound.{one, filledIn, headersIn, activeOk, slotCount, countOk, slotsOk, soundOf}
+use Rattle.string.specs.Sound.{filledIn, headersIn, activeOk, slotCount, countOk, slotsOk, soundOf}
 use Rattle.string.specs.declared.table.StrTable.{StrTable}
 use Rattle.string.proofs.Counting.{slot-power}
 use Rattle.string.proofs.Probes.{home-lt, probe-vacant, probe-found, probe-next}
@@ -71,11 +71,11 @@ pub record Empty (t : List ℕ) : Type 0 where
   pub is : getD t at 0 ≡ 0
 
 pub empty-slot : (t : List ℕ) → filledIn t < length t → Empty t
-unfolding filledIn one
+unfolding filledIn
 empty-slot [] h = absurd (omega arith)
 empty-slot (v ∷ t) h = go (empty-slot t) _ refl h
   where
-    go : (filledIn t < length t → Empty t) → (b : Bool) → eqb v 0 ≡ b → one b + filledIn t < suc (length t) → Empty (v ∷ t)
+    go : (filledIn t < length t → Empty t) → (b : Bool) → eqb v 0 ≡ b → cond b 0 1 + filledIn t < suc (length t) → Empty (v ∷ t)
     go f true e k = record { at = 0; in-it = omega arith; is = eqb-true v 0 e }
     go f false e k = let r = f (omega arith) in record { at = suc (r .at); in-it = omega (arith, r .in-it); is = r .is }
 
@@ -85,17 +85,13 @@ never-full hit t k len c p e h =
     let r = empty-slot t (omega arith) in
     meets hit t k p (r .at) (r .in-it) (r .is) c
 
-and-both : (a b : Bool) → (a && b) ≡ true → (a ≡ true) × (b ≡ true)
-and-both true b e = (refl, e)
-and-both false b e = let z : _≡_ {A = ℕ} 0 1 = cc in absurd (omega arith)
-
 -- probing a sound table that has slots comes to the value or to an empty slot
 pub probing-ends : (hit : ℕ → Bool) (base n : ℕ) (t : StrTable) (slots : List ℕ) (c : ℕ) → soundOf base n t slots ≡ true → (t .active ≡ 0 → ⊥) → lookup hit (take (t .active) slots) c ≡ Full → ⊥
 unfolding soundOf activeOk slotsOk countOk
 probing-ends hit base n t slots c e some =
-    let all = and-both (leb (t .active) (length slots) && (eqb (t .active) 0 || slotCount (t .active))) _ e in
-    let active = and-both (leb (t .active) (length slots)) _ (all .0) in
-    let counted = and-both (eqb (filledIn (take (t .active) slots)) (t .len)) _ (and-both (headersIn base n (take (t .active) slots)) _ (all .1) .1) in
+    let all = both (leb (t .active) (length slots) && (eqb (t .active) 0 || slotCount (t .active))) _ e in
+    let active = both (leb (t .active) (length slots)) _ (all .0) in
+    let counted = both (eqb (filledIn (take (t .active) slots)) (t .len)) _ (both (headersIn base n (take (t .active) slots)) _ (all .1) .1) in
     let long : length (take (t .active) slots) ≡ t .active = length-take-le (t .active) slots (leb-true _ _ (active .0)) in
     let power = slot-power (t .active) (rw (ne-eqb (t .active) 0 some) at (active .1)) in
     never-full hit (take (t .active) slots) (power .exponent) (t .len) c (long ∙ power .is) (eqb-true _ _ (counted .0)) (leb-true _ _ (counted .1))

@@ -11,11 +11,12 @@ use lib.Dec.{leb, eqb}
 use borrow.Author.Tests.{le-leb, lt-leb, leb-true, leb-false, eq-eqb, ne-eqb, not-true, not-false}
 use Rattle.memory.specs.Bytes.{bytesOf, valueOf}
 use Rattle.memory.specs.Lists.{over, write, same, part}
+use Rattle.memory.proofs.Tests.{both, leb-minus}
 use Rattle.memory.proofs.Over.{tail-home, write-append, length-write}
 use Rattle.memory.proofs.Bytes.{Bytes, bytes-take, bytes-drop, bytes-bytesOf, length-bytesOf, value-same}
 use Rattle.string.specs.declared.payload.Payload.{Payload}
 use Rattle.string.specs.declared.payload.Payload.the-variants.{At, Other}
-use Rattle.string.specs.Payload.{payloadOf, payloadSize, reaches, lengthAt, hashAt, bytesAt, headed, bytesFrom, holds, smallName}
+use Rattle.string.specs.Payload.{payloadOf, reaches, lengthAt, hashAt, headed, bytesFrom, holds, smallName}
 use Rattle.string.proofs.Small.{small-length, small-value}
 
 -- ---- written
@@ -40,10 +41,6 @@ payload-written s to one two e hash h p q r =
 
 -- ---- at an address
 
-shifted : (a k n : ℕ) (t : Bool) → k ≤ n → leb (a + k) n ≡ t → leb a (n - k) ≡ t
-shifted a k n true h e = let q : a + k ≤ n = leb-true _ _ e in le-leb a (n - k) (omega arith)
-shifted a k n false h e = let q : n < a + k = leb-false _ _ e in lt-leb a (n - k) (omega arith)
-
 pub low-outside : (base n v k : ℕ) → v < base → false ≡ reaches base n v k
 unfolding reaches
 low-outside base n v k h = rw (lt-leb base v h) refl
@@ -54,7 +51,7 @@ short-outside base n v k h = rw (lt-leb (v - base + k) n h, and-false) refl
 
 pub reaches-is : (base n v k : ℕ) → base ≤ v → k ≤ n → leb (v - base) (n - k) ≡ reaches base n v k
 unfolding reaches
-reaches-is base n v k h q = rw (le-leb base v h) (shifted (v - base) k n _ q refl)
+reaches-is base n v k h q = rw (le-leb base v h) (leb-minus (v - base) k n (v - base + k) refl q)
 
 -- what a test that passed says, and one that failed
 pub record Within (base n v k : ℕ) : Type 0 where
@@ -63,12 +60,9 @@ pub record Within (base n v k : ℕ) : Type 0 where
 
 within : (base n v k : ℕ) → reaches base n v k ≡ true → Within base n v k
 unfolding reaches
-within base n v k e = go (leb base v) (leb (v - base + k) n) refl refl e
-  where
-    go : (t u : Bool) → leb base v ≡ t → leb (v - base + k) n ≡ u → (t && u) ≡ true → Within base n v k
-    go true true p q e = record { above = leb-true _ _ p; ends = leb-true _ _ q }
-    go true false p q e = let z : _≡_ {A = ℕ} 0 1 = cc in absurd (omega arith)
-    go false u p q e = let z : _≡_ {A = ℕ} 0 1 = cc in absurd (omega arith)
+within base n v k e =
+    let tests = both (leb base v) (leb (v - base + k) n) e in
+    record { above = leb-true _ _ (tests .0); ends = leb-true _ _ (tests .1) }
 
 -- by what `header_in` answered
 pub header-found : (base n v : ℕ) (found : Bool) → found ≡ reaches base n v 8 → not found ≡ false → Within base n v 8
@@ -119,11 +113,7 @@ at-said false a c e = let z : _≡_ {A = ℕ} 0 1 = cc in absurd (omega arith)
 
 headed-within : (base : ℕ) (heap : List ℕ) (len hash v : ℕ) → headed base heap len hash v ≡ true → Within base (length heap) v (8 + len)
 unfolding headed
-headed-within base heap len hash v e = within base (length heap) v (8 + len) (left (reaches base (length heap) v (8 + len)) _ e)
-  where
-    left : (a b : Bool) → (a && b) ≡ true → a ≡ true
-    left true b e = refl
-    left false b e = e
+headed-within base heap len hash v e = within base (length heap) v (8 + len) (both (reaches base (length heap) v (8 + len)) _ e .0)
 
 module _ (base : ℕ) (heap s : List ℕ) (hash v : ℕ) (p : Payload) (is : p ≡ bytesFrom (headed base heap (length s) hash v) (v - base + 8)) where
   pub not-there : p ≡ Other → false ≡ holds base heap s hash v

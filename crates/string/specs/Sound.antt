@@ -1,6 +1,6 @@
 -- What a sound table is: the clauses of 9 that speak of it. Definitions only.
 use Prim.Native.Nat.{ℕ, _+_, _*_}
-use mathlib.Core.Bool.{Bool, true, false, _&&_, _||_}
+use mathlib.Core.Bool.{Bool, true, false, cond, _&&_, _||_}
 use mathlib.Core.List.{List, [], _∷_}
 use lib.ListN.{length, take}
 use lib.Dec.{leb, eqb}
@@ -16,13 +16,9 @@ unfoldable pub activeOk : ℕ → ℕ → Bool
 activeOk active lent = leb active lent && (eqb active 0 || slotCount active)
 
 -- how many slots are filled
-unfoldable pub one : Bool → ℕ
-one true = 0
-one false = 1
-
 unfoldable pub filledIn : List ℕ → ℕ
 filledIn [] = 0
-filledIn (v ∷ slots) = one (eqb v 0) + filledIn slots
+filledIn (v ∷ slots) = cond (eqb v 0) 0 1 + filledIn slots
 
 -- 'a filled slot whose header isn't in pushed pages', of which there are n bytes
 unfoldable pub headerIn : Bool → ℕ → ℕ → ℕ → Bool

@@ -1,7 +1,7 @@
 -- `StrTable`: open addressing on the hash with linear probing, 0 for an empty slot. Definitions only.
 use Prim.Native.Nat.{ℕ, zero, suc, _+_, _-_}
 use mathlib.Core.Bool.{Bool, true, false}
-use mathlib.Core.List.{List, [], _∷_}
+use mathlib.Core.List.{List}
 use lib.ListN.{length, getD, set}
 use lib.Dec.{eqb}
 use lib.Bits.{bitAnd}

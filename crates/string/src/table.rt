@@ -1,5 +1,5 @@
 // The table of names: open addressing on the hash with linear probing, at most half full. A slot
-// holds a string's address, or 0. The active slots are the first of those lent.
+// holds a string's address, or is EMPTY. The active slots are the first of those lent.
 ghost use mathlib.Core.Path.{_≡_};
 ghost use Prim.Native.Nat.{_+_, _*_, _≤_, _<_, _^_};
 ghost use lib.ListN.{length, take, replicate};
@@ -12,11 +12,17 @@ ghost use Rattle.string.specs.Sound.{slotCount, activeOk, slotsOk, sound
 use crate::payload::header_in;
 use crate::payload::is_small;
 use crate::payload::is_string;
+use value::Value;
+
+const EMPTY: u64 = Value::UNDEF.0;
 
 // What probing comes to.
 pub enum Probe {
+    // The value that is looked for.
     Found(u64),
+    // The first empty slot, with no such value before it.
     Vacant(usize),
+    // Every slot was looked at, and none is empty.
     Full,
 }
 
@@ -33,7 +39,7 @@ pub fn get(base: u64, heap: &[u8], slots: &[u64], s: &[u8], hash: u32) -> Probe
     let mut k: usize = 0;
     while k < n {
         let v = slots[i];
-        if v == 0 {
+        if v == EMPTY {
             return Probe::Vacant(i);
         }
         if is_string(base, heap, s, hash, v) {
@@ -59,7 +65,7 @@ pub fn get_small(base: u64, heap: &[u8], slots: &[u64], len: usize, word: u64, h
     let mut k: usize = 0;
     while k < n {
         let v = slots[i];
-        if v == 0 {
+        if v == EMPTY {
             return Probe::Vacant(i);
         }
         if is_small(base, heap, len, word, hash, v) {
@@ -83,7 +89,7 @@ fn place(hash: u32, v: u64, slots: &mut [u64])
     let mut i = hash as usize & mask;
     let mut k: usize = 0;
     while k < n {
-        if slots[i] == 0 {
+        if slots[i] == EMPTY {
             slots[i] = v;
             return;
         }
@@ -110,7 +116,7 @@ fn place_all(base: u64, heap: &[u8], old: &[u64], slots: &mut [u64])
     let mut i: usize = 0;
     while i < old.len() {
         let v = old[i];
-        if v != 0 {
+        if v != EMPTY {
             place(str_hash(base, heap, v), v, slots);
         }
         i += 1;
@@ -169,7 +175,7 @@ fn slots_ok(base: u64, pushed: usize, len: usize, slots: &[u64]) -> bool
     let mut i: usize = 0;
     while i < slots.len() {
         let v = slots[i];
-        if v != 0 {
+        if v != EMPTY {
             if !header_in(base, pushed, v) {
                 return false;
             }

@@ -1,16 +1,18 @@
--- Worked cases of document 01 in one table, and the one fact, by computation, that all its rows hold. Assumes nothing.
+-- Worked cases beside those that document 01 marks (P), which stand in `corners`: one table, and the one fact, by computation, that all its rows
+-- hold. The ends of a division, `CastToBool`, `BEq` and the one NaN are document 01's, the sign of a remainder is the Rust's, the sums, the
+-- comparison and the double of -2^63 are IEEE 754's. Assumes nothing.
 use mathlib.Core.Path.{_≡_, refl}
 use mathlib.Core.Bool.{true, Bool·beq}
 use mathlib.Core.List.{List, [], _∷_}
 use Prim.Native.Nat.{ℕ, _+_, _-_, _^_}
 use lib.Ieee as Ieee
-use lib.Ieee.{isNan, ofBits, toBits, ofInt, toSigned}
+use lib.Ieee.{isNan, ofBits, toBits, ofInt}
 use Rattle.memory.specs.Rows.{hold}
 use Rattle.value.specs.declared.int.Divided.{Divided}
 use Rattle.value.specs.declared.int.Divided.the-variants.{Exact, ByZero, Overflow}
 use Rattle.value.specs.Int.{signed, pattern, divided, quotientOf, remainderOf}
 use Rattle.value.specs.Double.{double, bits, on}
-use Rattle.value.specs.Cast.{truth, bit, castToBool, castToDouble, castToInt}
+use Rattle.value.specs.Cast.{truth, bit, castToBool, castToDouble}
 
 -- the pattern of the integer -n
 abbrev minus : ℕ → ℕ
@@ -29,24 +31,15 @@ shown Overflow = end 7
 -- what a definition gives, and what the papers say
 unfoldable pub rows : List (ℕ × ℕ)
 rows =
-    -- -7 divided by 2 is -3, remainder -1; the remainder has the dividend's sign
-    (shown (quotientOf (minus 7) 2), minus 3)
-    ∷ (shown (remainderOf (minus 7) 2), minus 1)
-    ∷ (shown (remainderOf 7 (minus 2)), 1)
+    -- the remainder has the dividend's sign
+    (shown (remainderOf 7 (minus 2)), 1)
     -- a zero divisor, and -2^63 by -1
     ∷ (shown (quotientOf (2 ^ 63) 0), end 1)
     ∷ (shown (remainderOf (2 ^ 63) 0), end 1)
     ∷ (shown (quotientOf (2 ^ 63) (minus 1)), end 7)
     ∷ (shown (remainderOf (2 ^ 63) (minus 1)), end 7)
-    -- CastToDouble: 2^53 + 1 and 2^53 + 3 lie half way and go to the even one; -2^63
-    ∷ (castToDouble (2 ^ 53 + 1), 0x4340_0000_0000_0000)
-    ∷ (castToDouble (2 ^ 53 + 3), 0x4340_0000_0000_0002)
+    -- CastToDouble: -2^63
     ∷ (castToDouble (2 ^ 63), 0xc3e0_0000_0000_0000)
-    -- CastToInt: a NaN, -0.5, 2^63, -2^63
-    ∷ (castToInt 0x7ff8_0000_0000_0000, 0)
-    ∷ (castToInt 0xbfe0_0000_0000_0000, 0)
-    ∷ (castToInt 0x43e0_0000_0000_0000, 2 ^ 63 - 1)
-    ∷ (castToInt 0xc3e0_0000_0000_0000, 2 ^ 63)
     -- CastToBool: the pattern of -0.0 is true; BEq: 2 and 1 are equal
     ∷ (castToBool 0x8000_0000_0000_0000, 1)
     ∷ (bit (Bool·beq (truth 2) (truth 1)), 1)
@@ -60,5 +53,5 @@ rows =
     ∷ []
 
 pub all-hold : hold rows ≡ true
-unfolding rows hold signed pattern divided bits isNan ofBits toBits ofInt toSigned Ieee.add Ieee.sub Ieee.mul Ieee.div Ieee.lt
+unfolding rows hold signed pattern divided bits isNan ofBits toBits ofInt Ieee.add Ieee.sub Ieee.mul Ieee.div Ieee.lt
 all-hold = refl

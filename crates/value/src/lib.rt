@@ -10,7 +10,7 @@ ghost use Rattle.value.specs.Cast.{truth, bit, castToBool, castToDouble,
 pub mod double;
 pub mod int;
 
-// The weight of the sign in both readings: from here on a pattern's integer is below 0.
+// The sign bit, in both readings: from here on a pattern's integer is below 0.
 const SIGN: u64 = 0x8000_0000_0000_0000;
 
 const INFINITY: u64 = 0x7ff0_0000_0000_0000;

@@ -1,16 +1,15 @@
 -- What refusal 10 leaves of the buffers' sizes, and how it is computed without a sum that could pass 2^64. Assumes nothing.
-use mathlib.Core.Path.{_≡_, refl, sym, ap}
+use mathlib.Core.Path.{_≡_, refl, sym}
 use Prim.Native.Nat.{ℕ, zero, suc, _+_, _-_, _*_, _%_, _^_, _≤_, _<_}
 use mathlib.Core.Bool.{Bool, true, false, _&&_}
 use mathlib.Core.List.{List, [], _∷_}
 use lib.ListN.{length, take, drop}
 use native.Mathlib.Omega.{arith}
 use lib.Dec.{leb, eqb}
-use native.Mathlib.Nat.{add-comm}
 use borrow.Author.Tests.{leb-true, le-leb, lt-leb}
+use Rattle.memory.proofs.Tests.{leb-minus}
 use Rattle.anomaly.proofs.Numbers.{both}
 use Rattle.gc.specs.Lent.{pageSize}
-use Rattle.gc.proofs.Soundness.{end-is}
 use Rattle.vm.specs.declared.State.{State}
 use Rattle.program.specs.Image.{below}
 use Rattle.vm.specs.Machine.{Lent, framesOk, heapOk, returnsOk, framesBelong}
@@ -30,7 +29,7 @@ heap-long base n h = rw (le-leb 4096 n (omega arith), lt-leb n 1048576 h) refl
 pub heap-tested : (base n : ℕ) → n ≤ 1048576
     → ((leb 4096 n && eqb (n % 4096) 0) && (leb 4096 base && (eqb (base % 4096) 0 && leb base (281474976710656 - n)))) ≡ heapOk base n
 unfolding heapOk
-heap-tested base n h = rw (le-leb n 1048576 h, end-is n base 281474976710656 (leb (base + n) 281474976710656) (omega arith) (ap (λ (k : ℕ). leb k 281474976710656) (add-comm n base))) refl
+heap-tested base n h = rw (le-leb n 1048576 h, leb-minus base n 281474976710656 (base + n) refl (omega arith)) refl
 
 pub heap-low : (base n : ℕ) → heapOk base n ≡ true → base + n ≤ 2 ^ 48
 unfolding heapOk

@@ -12,7 +12,7 @@ jumps : tie.Need-returns-5
 jumps c = rw (c .inside4 .ensures, c .before .target .ensures) (jump-rest _ _ _ (omega arith) (omega arith))
 
 functions : tie.Need-returns-6
-functions c = rw (c .inside5 .ensures, c .before .number4 .ensures) (function-rest _ _ _ (omega arith) (omega arith))
+functions c = rw (c .inside5 .ensures, c .before .upper4 .ensures) (function-rest _ _ _ (omega arith) (omega arith))
 
 below : tie.Need-returns-7
 below c = no-rest-below _ _ _ (omega arith)
@@ -26,8 +26,8 @@ rest-spec =
     tie.close
     (tie.spec
     nothing nothing nothing nothing nothing nothing nothing nothing nothing nothing nothing nothing
-    (λ c. rw (c .before .before .match .keys1, c .inside .ensures, c .before .number .ensures))
-    (λ c. rw (c .before .before .match .keys2, c .inside2 .ensures, c .before .number2 .ensures))
-    (λ c. rw (c .before .before .match .keys3, c .inside3 .ensures, c .before .number3 .ensures))
-    (λ c. rw (c .before .before .match .keys4, c .aligned .ensures, c .before .three .ensures, and-true))
+    (λ c. rw (c .before .before .match .keys1, c .inside .ensures, c .before .upper .ensures))
+    (λ c. rw (c .before .before .match .keys2, c .inside2 .ensures, c .before .upper2 .ensures))
+    (λ c. rw (c .before .before .match .keys3, c .inside3 .ensures, c .before .upper3 .ensures))
+    (λ c. rw (c .before .before .match .keys4, c .aligned .ensures, c .before .byte-three .ensures, and-true))
     jumps functions below above)

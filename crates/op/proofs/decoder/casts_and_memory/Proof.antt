@@ -14,22 +14,22 @@ casts-and-memory-spec =
     nothing nothing nothing nothing nothing nothing nothing nothing nothing nothing nothing nothing nothing nothing
     nothing nothing nothing nothing nothing nothing nothing nothing nothing nothing nothing nothing nothing nothing
     (λ c. let two = c .before in let one = two .before in let fits = one .before in
-    rw (fits .before .match .keys1, c .checked .ensures, fits .fits2 .ensures, two-registers, one .one .ensures, two .two .ensures))
+    rw (fits .before .match .keys1, c .checked .ensures, fits .fits2 .ensures, two-registers, one .byte-one .ensures, two .byte-two .ensures))
     (λ c. let two = c .before in let one = two .before in let fits = one .before in
-    rw (fits .before .match .keys2, c .checked2 .ensures, fits .fits3 .ensures, two-registers, one .one2 .ensures, two .two2 .ensures))
+    rw (fits .before .match .keys2, c .checked2 .ensures, fits .fits3 .ensures, two-registers, one .byte-one2 .ensures, two .byte-two2 .ensures))
     (λ c. let two = c .before in let one = two .before in let fits = one .before in
-    rw (fits .before .match .keys3, c .checked3 .ensures, fits .fits4 .ensures, two-registers, one .one3 .ensures, two .two3 .ensures))
+    rw (fits .before .match .keys3, c .checked3 .ensures, fits .fits4 .ensures, two-registers, one .byte-one3 .ensures, two .byte-two3 .ensures))
     (λ c. let three = c .before in let number = three .before in let two = number .before in let one = two .before in let fits-alloc = one .before in
-    rw (fits-alloc .before .match .keys4, c .checked4 .ensures, fits-alloc .fits-alloc .ensures, one .one4 .ensures, two .two4 .ensures, number .number .ensures, three .three .ensures))
+    rw (fits-alloc .before .match .keys4, c .checked4 .ensures, fits-alloc .fits-alloc .ensures, one .byte-one4 .ensures, two .byte-two4 .ensures, number .upper .ensures, three .byte-three .ensures))
     (λ c. let two = c .before in let number = two .before in let one = number .before in let fits = one .before in
-    rw (fits .before .match .keys5, c .checked5 .ensures, fits .fits5 .ensures, two-and-number, one .one5 .ensures, number .number2 .ensures, two .two5 .ensures))
+    rw (fits .before .match .keys5, c .checked5 .ensures, fits .fits5 .ensures, two-and-number, one .byte-one5 .ensures, number .upper2 .ensures, two .byte-two5 .ensures))
     (λ c. let number = c .before in let two = number .before in let one = two .before in let fits = one .before in
-    rw (fits .before .match .keys6, c .checked6 .ensures, fits .fits6 .ensures, two-and-number, one .one6 .ensures, two .two6 .ensures, number .number3 .ensures))
+    rw (fits .before .match .keys6, c .checked6 .ensures, fits .fits6 .ensures, two-and-number, one .byte-one6 .ensures, two .byte-two6 .ensures, number .upper3 .ensures))
     (λ c. let number = c .before in let two = number .before in let one = two .before in let fits = one .before in
-    rw (fits .before .match .keys7, c .checked7 .ensures, fits .fits7 .ensures, two-and-number, one .one7 .ensures, two .two7 .ensures, number .number4 .ensures))
+    rw (fits .before .match .keys7, c .checked7 .ensures, fits .fits7 .ensures, two-and-number, one .byte-one7 .ensures, two .byte-two7 .ensures, number .upper4 .ensures))
     (λ c. let fits = c .before in rw (fits .before .match .keys8, c .checked8 .ensures, fits .fits8 .ensures, bare))
     (λ c. let one = c .before in let fits = one .before in
-    rw (fits .before .match .keys9, c .checked9 .ensures, fits .fits9 .ensures, one-register, one .one8 .ensures))
+    rw (fits .before .match .keys9, c .checked9 .ensures, fits .fits9 .ensures, one-register, one .byte-one8 .ensures))
     (λ c. let fits = c .before in rw (fits .before .match .keys10, c .checked10 .ensures, fits .fits10 .ensures, bare))
     (λ c. let fits = c .before in
     rw (last _ 50 10 (fits .before .before .pre .0) (fits .before .before .pre .1) (fits .before .match .rest), c .checked11 .ensures, fits .fits11 .ensures, bare)))

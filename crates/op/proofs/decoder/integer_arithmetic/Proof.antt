@@ -17,26 +17,26 @@ integer-arithmetic-spec =
     nothing nothing nothing nothing nothing nothing nothing nothing nothing nothing nothing nothing nothing nothing
     nothing nothing nothing nothing
     (λ c. let three = c .before in let two = three .before in let one = two .before in let fits = one .before in
-    rw (fits .before .match .keys1, c .checked .ensures, fits .fits2 .ensures, three-registers, one .one .ensures, two .two .ensures, three .three .ensures))
+    rw (fits .before .match .keys1, c .checked .ensures, fits .fits2 .ensures, three-registers, one .byte-one .ensures, two .byte-two .ensures, three .byte-three .ensures))
     (λ c. let signed = c .before in let two = signed .before in let one = two .before in let fits = one .before in
-    rw (fits .before .match .keys2, c .checked2 .ensures, fits .fits3 .ensures, two-and-number, one .one2 .ensures, two .two2 .ensures, signed .signed .ensures))
+    rw (fits .before .match .keys2, c .checked2 .ensures, fits .fits3 .ensures, two-and-number, one .byte-one2 .ensures, two .byte-two2 .ensures, signed .upper-signed .ensures))
     (λ c. let three = c .before in let two = three .before in let one = two .before in let fits = one .before in
-    rw (fits .before .match .keys3, c .checked3 .ensures, fits .fits4 .ensures, three-registers, one .one3 .ensures, two .two3 .ensures, three .three2 .ensures))
+    rw (fits .before .match .keys3, c .checked3 .ensures, fits .fits4 .ensures, three-registers, one .byte-one3 .ensures, two .byte-two3 .ensures, three .byte-three2 .ensures))
     (λ c. let signed = c .before in let two = signed .before in let one = two .before in let fits = one .before in
-    rw (fits .before .match .keys4, c .checked4 .ensures, fits .fits5 .ensures, two-and-number, one .one4 .ensures, two .two4 .ensures, signed .signed2 .ensures))
+    rw (fits .before .match .keys4, c .checked4 .ensures, fits .fits5 .ensures, two-and-number, one .byte-one4 .ensures, two .byte-two4 .ensures, signed .upper-signed2 .ensures))
     (λ c. let three = c .before in let two = three .before in let one = two .before in let fits = one .before in
-    rw (fits .before .match .keys5, c .checked5 .ensures, fits .fits6 .ensures, three-registers, one .one5 .ensures, two .two5 .ensures, three .three3 .ensures))
+    rw (fits .before .match .keys5, c .checked5 .ensures, fits .fits6 .ensures, three-registers, one .byte-one5 .ensures, two .byte-two5 .ensures, three .byte-three3 .ensures))
     (λ c. let signed = c .before in let two = signed .before in let one = two .before in let fits = one .before in
-    rw (fits .before .match .keys6, c .checked6 .ensures, fits .fits7 .ensures, two-and-number, one .one6 .ensures, two .two6 .ensures, signed .signed3 .ensures))
+    rw (fits .before .match .keys6, c .checked6 .ensures, fits .fits7 .ensures, two-and-number, one .byte-one6 .ensures, two .byte-two6 .ensures, signed .upper-signed3 .ensures))
     (λ c. let three = c .before in let two = three .before in let one = two .before in let fits = one .before in
-    rw (fits .before .match .keys7, c .checked7 .ensures, fits .fits8 .ensures, three-registers, one .one7 .ensures, two .two7 .ensures, three .three4 .ensures))
+    rw (fits .before .match .keys7, c .checked7 .ensures, fits .fits8 .ensures, three-registers, one .byte-one7 .ensures, two .byte-two7 .ensures, three .byte-three4 .ensures))
     (λ c. let signed = c .before in let two = signed .before in let one = two .before in let fits = one .before in
-    rw (fits .before .match .keys8, c .checked8 .ensures, fits .fits9 .ensures, two-and-number, one .one8 .ensures, two .two8 .ensures, signed .signed4 .ensures))
+    rw (fits .before .match .keys8, c .checked8 .ensures, fits .fits9 .ensures, two-and-number, one .byte-one8 .ensures, two .byte-two8 .ensures, signed .upper-signed4 .ensures))
     (λ c. let three = c .before in let two = three .before in let one = two .before in let fits = one .before in
-    rw (fits .before .match .keys9, c .checked9 .ensures, fits .fits10 .ensures, three-registers, one .one9 .ensures, two .two9 .ensures, three .three5 .ensures))
+    rw (fits .before .match .keys9, c .checked9 .ensures, fits .fits10 .ensures, three-registers, one .byte-one9 .ensures, two .byte-two9 .ensures, three .byte-three5 .ensures))
     (λ c. let signed = c .before in let two = signed .before in let one = two .before in let fits = one .before in
-    rw (fits .before .match .keys10, c .checked10 .ensures, fits .fits11 .ensures, two-and-number, one .one10 .ensures, two .two10 .ensures, signed .signed5 .ensures))
+    rw (fits .before .match .keys10, c .checked10 .ensures, fits .fits11 .ensures, two-and-number, one .byte-one10 .ensures, two .byte-two10 .ensures, signed .upper-signed5 .ensures))
     (λ c. let three = c .before in let two = three .before in let one = two .before in let fits = one .before in
-    rw (fits .before .match .keys11, c .checked11 .ensures, fits .fits12 .ensures, three-registers, one .one11 .ensures, two .two11 .ensures, three .three6 .ensures))
+    rw (fits .before .match .keys11, c .checked11 .ensures, fits .fits12 .ensures, three-registers, one .byte-one11 .ensures, two .byte-two11 .ensures, three .byte-three6 .ensures))
     (λ c. let signed = c .before in let two = signed .before in let one = two .before in let fits = one .before in
-    rw (last _ 0 11 zero-le (fits .before .before .pre) (fits .before .match .rest), c .checked12 .ensures, fits .fits13 .ensures, two-and-number, one .one12 .ensures, two .two12 .ensures, signed .signed6 .ensures)))
+    rw (last _ 0 11 zero-le (fits .before .before .pre) (fits .before .match .rest), c .checked12 .ensures, fits .fits13 .ensures, two-and-number, one .byte-one12 .ensures, two .byte-two12 .ensures, signed .upper-signed6 .ensures)))

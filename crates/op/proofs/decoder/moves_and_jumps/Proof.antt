@@ -16,30 +16,30 @@ moves-and-jumps-spec =
     nothing nothing nothing nothing nothing nothing nothing nothing nothing nothing nothing nothing nothing nothing
     nothing nothing nothing nothing
     (λ c. let two = c .before in let one = two .before in let fits = one .before in
-    rw (fits .before .match .keys1, c .checked .ensures, fits .fits2 .ensures, two-registers, one .one .ensures, two .two .ensures))
+    rw (fits .before .match .keys1, c .checked .ensures, fits .fits2 .ensures, two-registers, one .byte-one .ensures, two .byte-two .ensures))
     (λ c. let signed = c .before in let one = signed .before in let fits = one .before in
-    rw (fits .before .match .keys2, c .checked2 .ensures, fits .fits3 .ensures, one-and-number, one .one2 .ensures, signed .signed .ensures))
+    rw (fits .before .match .keys2, c .checked2 .ensures, fits .fits3 .ensures, one-and-number, one .byte-one2 .ensures, signed .upper-signed .ensures))
     (λ c. let number = c .before in let one = number .before in let fits = one .before in
-    rw (fits .before .match .keys3, c .checked3 .ensures, fits .fits4 .ensures, one-and-number, one .one3 .ensures, number .number .ensures))
+    rw (fits .before .match .keys3, c .checked3 .ensures, fits .fits4 .ensures, one-and-number, one .byte-one3 .ensures, number .upper .ensures))
     (λ c. let target = c .before in let fits = target .before in
     rw (fits .before .match .keys4, c .checked4 .ensures, fits .fits5 .ensures, jump, target .target .ensures))
     (λ c. let target = c .before in let one = target .before in let fits = one .before in
-    rw (fits .before .match .keys5, c .checked5 .ensures, fits .fits6 .ensures, jump-if, one .one4 .ensures, target .target2 .ensures))
+    rw (fits .before .match .keys5, c .checked5 .ensures, fits .fits6 .ensures, jump-if, one .byte-one4 .ensures, target .target2 .ensures))
     (λ c. let target = c .before in let one = target .before in let fits = one .before in
-    rw (fits .before .match .keys6, c .checked6 .ensures, fits .fits7 .ensures, jump-if, one .one5 .ensures, target .target3 .ensures))
+    rw (fits .before .match .keys6, c .checked6 .ensures, fits .fits7 .ensures, jump-if, one .byte-one5 .ensures, target .target3 .ensures))
     (λ c. let target = c .before in let signed = target .before in let one = signed .before in let fits = one .before in
-    rw (fits .before .match .keys7, c .checked7 .ensures, fits .fits8 .ensures, jump-immediate, one .one6 .ensures, signed .signed2 .ensures, target .target4 .ensures))
+    rw (fits .before .match .keys7, c .checked7 .ensures, fits .fits8 .ensures, jump-immediate, one .byte-one6 .ensures, signed .upper-signed2 .ensures, target .target4 .ensures))
     (λ c. let target = c .before in let signed = target .before in let one = signed .before in let fits = one .before in
-    rw (fits .before .match .keys8, c .checked8 .ensures, fits .fits9 .ensures, jump-immediate, one .one7 .ensures, signed .signed3 .ensures, target .target5 .ensures))
+    rw (fits .before .match .keys8, c .checked8 .ensures, fits .fits9 .ensures, jump-immediate, one .byte-one7 .ensures, signed .upper-signed3 .ensures, target .target5 .ensures))
     (λ c. let target = c .before in let number = target .before in let one = number .before in let fits = one .before in
-    rw (fits .before .match .keys9, c .checked9 .ensures, fits .fits10 .ensures, jump-two, one .one8 .ensures, number .number2 .ensures, target .target6 .ensures))
+    rw (fits .before .match .keys9, c .checked9 .ensures, fits .fits10 .ensures, jump-two, one .byte-one8 .ensures, number .upper2 .ensures, target .target6 .ensures))
     (λ c. let target = c .before in let number = target .before in let one = number .before in let fits = one .before in
-    rw (fits .before .match .keys10, c .checked10 .ensures, fits .fits11 .ensures, jump-two, one .one9 .ensures, number .number3 .ensures, target .target7 .ensures))
+    rw (fits .before .match .keys10, c .checked10 .ensures, fits .fits11 .ensures, jump-two, one .byte-one9 .ensures, number .upper3 .ensures, target .target7 .ensures))
     (λ c. let number = c .before in let two = number .before in let one = two .before in let fits = one .before in
-    rw (fits .before .match .keys11, c .checked11 .ensures, fits .fits12 .ensures, switch, one .one10 .ensures, two .two2 .ensures, number .number4 .ensures))
+    rw (fits .before .match .keys11, c .checked11 .ensures, fits .fits12 .ensures, switch, one .byte-one10 .ensures, two .byte-two2 .ensures, number .upper4 .ensures))
     (λ c. let number = c .before in let two = number .before in let one = two .before in let three = one .before in let fits = three .before in
-    rw (fits .before .match .keys12, c .checked12 .ensures, fits .fits13 .ensures, lookup, three .three .ensures, one .one11 .ensures, two .two3 .ensures, number .number5 .ensures))
+    rw (fits .before .match .keys12, c .checked12 .ensures, fits .fits13 .ensures, lookup, three .byte-three .ensures, one .byte-one11 .ensures, two .byte-two3 .ensures, number .upper5 .ensures))
     (λ c. let number = c .before in let fits = number .before in
-    rw (fits .before .match .keys13, c .checked13 .ensures, fits .fits14 .ensures, only-number, number .number6 .ensures))
+    rw (fits .before .match .keys13, c .checked13 .ensures, fits .fits14 .ensures, only-number, number .upper6 .ensures))
     (λ c. let number = c .before in let fits = number .before in
-    rw (last _ 26 13 (fits .before .before .pre .0) (fits .before .before .pre .1) (fits .before .match .rest), c .checked14 .ensures, fits .fits15 .ensures, only-number, number .number7 .ensures)))
+    rw (last _ 26 13 (fits .before .before .pre .0) (fits .before .before .pre .1) (fits .before .match .rest), c .checked14 .ensures, fits .fits15 .ensures, only-number, number .upper7 .ensures)))

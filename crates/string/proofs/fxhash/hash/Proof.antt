@@ -1,7 +1,6 @@
 -- `string::fxhash::hash` meets its contract. Assumes nothing.
 use Prim.Native.Nat.{_-_}
-use native.Mathlib.Omega.{arith}
-use lib.ListN.{length, drop, take, length-take, length-drop}
+use lib.ListN.{length}
 use Rattle.string.proofs.Chunks.{Hashing, hash-start, hash-whole, hash-last, hash-end}
 use borrow.Author.Needs.{needs}
 use Rattle.string.proofs.fxhash.hash.Statement.{statement}

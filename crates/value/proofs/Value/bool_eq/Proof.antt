@@ -3,8 +3,5 @@ use borrow.Author.Needs.{needs}
 use Rattle.value.proofs.Value.bool_eq.Statement.{statement}
 use Rattle.value.proofs.Value.bool_eq.Tie as tie
 
-returns : tie.Need-returns
-returns c = cc
-
 pub bool-eq-spec : {M : Type 1} → statement M
-bool-eq-spec = tie.close (tie.spec (λ c κs. search needs) (λ c κs. search needs) returns)
+bool-eq-spec = tie.close (tie.spec (λ c κs. search needs) (λ c κs. search needs) (λ c. cc))

@@ -3,8 +3,5 @@ use borrow.Author.Needs.{needs}
 use Rattle.value.proofs.double.add.Statement.{statement}
 use Rattle.value.proofs.double.add.Tie as tie
 
-returns : tie.Need-returns
-returns c = cc
-
 pub add-spec : {M : Type 1} → statement M
-add-spec = tie.close (tie.spec (λ c κs. search needs) (λ c κs. search needs) (λ c κs. search needs) returns)
+add-spec = tie.close (tie.spec (λ c κs. search needs) (λ c κs. search needs) (λ c κs. search needs) (λ c. cc))

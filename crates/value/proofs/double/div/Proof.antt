@@ -3,8 +3,5 @@ use borrow.Author.Needs.{needs}
 use Rattle.value.proofs.double.div.Statement.{statement}
 use Rattle.value.proofs.double.div.Tie as tie
 
-returns : tie.Need-returns
-returns c = cc
-
 pub div-spec : {M : Type 1} → statement M
-div-spec = tie.close (tie.spec (λ c κs. search needs) (λ c κs. search needs) (λ c κs. search needs) returns)
+div-spec = tie.close (tie.spec (λ c κs. search needs) (λ c κs. search needs) (λ c κs. search needs) (λ c. cc))

@@ -3,8 +3,5 @@ use borrow.Author.Needs.{needs}
 use Rattle.value.proofs.double.gt.Statement.{statement}
 use Rattle.value.proofs.double.gt.Tie as tie
 
-returns : tie.Need-returns
-returns c = cc
-
 pub gt-spec : {M : Type 1} → statement M
-gt-spec = tie.close (tie.spec (λ c κs. search needs) (λ c κs. search needs) returns)
+gt-spec = tie.close (tie.spec (λ c κs. search needs) (λ c κs. search needs) (λ c. cc))

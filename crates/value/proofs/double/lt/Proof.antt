@@ -3,8 +3,5 @@ use borrow.Author.Needs.{needs}
 use Rattle.value.proofs.double.lt.Statement.{statement}
 use Rattle.value.proofs.double.lt.Tie as tie
 
-returns : tie.Need-returns
-returns c = cc
-
 pub lt-spec : {M : Type 1} → statement M
-lt-spec = tie.close (tie.spec (λ c κs. search needs) (λ c κs. search needs) returns)
+lt-spec = tie.close (tie.spec (λ c κs. search needs) (λ c κs. search needs) (λ c. cc))

@@ -3,8 +3,5 @@ use borrow.Author.Needs.{needs}
 use Rattle.value.proofs.double.mul.Statement.{statement}
 use Rattle.value.proofs.double.mul.Tie as tie
 
-returns : tie.Need-returns
-returns c = cc
-
 pub mul-spec : {M : Type 1} → statement M
-mul-spec = tie.close (tie.spec (λ c κs. search needs) (λ c κs. search needs) (λ c κs. search needs) returns)
+mul-spec = tie.close (tie.spec (λ c κs. search needs) (λ c κs. search needs) (λ c κs. search needs) (λ c. cc))

@@ -3,8 +3,5 @@ use borrow.Author.Needs.{needs}
 use Rattle.value.proofs.double.sub.Statement.{statement}
 use Rattle.value.proofs.double.sub.Tie as tie
 
-returns : tie.Need-returns
-returns c = cc
-
 pub sub-spec : {M : Type 1} → statement M
-sub-spec = tie.close (tie.spec (λ c κs. search needs) (λ c κs. search needs) (λ c κs. search needs) returns)
+sub-spec = tie.close (tie.spec (λ c κs. search needs) (λ c κs. search needs) (λ c κs. search needs) (λ c. cc))
