@@ -105,3 +105,8 @@ decoded p = decodedBy (rowOf (p .opcode)) p
 
 unfoldable pub decodeOf : ℕ → Decoded
 decodeOf w = decoded (partsOf w)
+
+-- the refusal's number; of an instruction 0
+abbrev pub refusalOf : Decoded → ℕ
+refusalOf (Decoded.Op op) = 0
+refusalOf (Decoded.Refused k) = k

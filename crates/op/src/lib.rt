@@ -25,6 +25,9 @@
 //  +--------+--------+---------+---------+--------+
 //
 // What is empty here is zero. `imm` and `value` are signed; `Op` has them 64 bits wide.
+ghost use mathlib.Core.Path.{_≡_};
+ghost use Rattle.op.specs.Decode.{refusalOf};
+
 mod checker;
 mod decoder;
 mod word;
@@ -332,6 +335,18 @@ impl Op {
 pub enum Decoded {
     Op(Op),
     Refused(u64),
+}
+
+impl Decoded {
+    // The refusal's number; of an instruction 0.
+    pub fn refusal(self) -> u64
+        ensures { λ r. ⌜ r ≡ refusalOf self ⌝ }
+    {
+        match self {
+            Decoded::Op(_) => 0,
+            Decoded::Refused(number) => number,
+        }
+    }
 }
 
 // How many words, globals and tables of each kind an image has.

@@ -114,7 +114,7 @@ effectOf im r (Assert c) = cond (truth (getD r c 0)) effect.Skip (effect.Stop 4)
 effectOf im r Halt = effect.Halt
 effectOf im r Nop = effect.Skip
 
--- the effect of a decoded word; the loader refuses a word that is none
+-- the effect of a decoded word. One that is no instruction would stop with its refusal; the loader has refused it before
 unfoldable pub wordEffect : Image → List ℕ → Decoded → Effect
 wordEffect im r (Decoded.Op op) = effectOf im r op
-wordEffect im r (Decoded.Refused k) = effect.Stop unlisted
+wordEffect im r (Decoded.Refused k) = effect.Stop k

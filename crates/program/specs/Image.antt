@@ -10,13 +10,13 @@ use Rattle.op.specs.declared.Checked.{Checked}
 use Rattle.op.specs.declared.Counts.{Counts}
 use Rattle.op.specs.Reach.{checkOf}
 
--- tables of one kind as three lists: the first key and the default of each, where the entries of each end, and all entries in a row. A
--- jump table has no default
+-- tables of one kind as three lists: the first key of each, where the entries of each end, and all entries in a row
 pub record Tables : Type 0 where
   pub firsts : List ℕ
   pub ends : List ℕ
   pub entries : List ℕ
 
+-- `defaults` has that of each `Lookup` table
 pub record Image : Type 0 where
   pub code : List ℕ
   pub globals : List ℕ
@@ -30,7 +30,7 @@ tablesOf firsts ends entries = record { firsts = firsts; ends = ends; entries = 
 abbrev pub imageOf : List ℕ → List ℕ → Tables → Tables → List ℕ → Image
 imageOf code globals switches lookups defaults = record { code = code; globals = globals; switches = switches; lookups = lookups; defaults = defaults }
 
--- the entries of table k
+-- where the entries of table k begin
 unfoldable pub startOf : List ℕ → ℕ → ℕ
 startOf ends zero = 0
 startOf ends (suc k) = getD ends k 0
@@ -41,7 +41,7 @@ entriesOf t k = part (startOf (t .ends) k) (getD (t .ends) k 0 - startOf (t .end
 unfoldable pub counts : Image → Counts
 counts im = record { code = length (im .code); globals = length (im .globals); switches = length (im .switches .firsts); lookups = length (im .lookups .firsts) }
 
--- ---- refusals: the number of the first test that fails
+-- ---- refusals
 
 pub record Test : Type 0 where
   pub passes : Bool

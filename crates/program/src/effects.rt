@@ -55,8 +55,7 @@ fn jump_if(b: bool, target: usize) -> Effect
     }
 }
 
-// Assert: a false one stops with 4.
-fn unless_false(b: bool) -> Effect
+fn assert(b: bool) -> Effect
     ensures { λ r. ⌜ r ≡ cond b Effect.Skip (Effect.Stop 4) ⌝ }
 {
     if b {
@@ -66,8 +65,7 @@ fn unless_false(b: bool) -> Effect
     }
 }
 
-// LoadG.
-fn global(dst: usize, idx: usize, globals: &[u64]) -> Effect
+fn load_global(dst: usize, idx: usize, globals: &[u64]) -> Effect
     ensures { λ r. ⌜ r ≡ within idx (length (now (globals .entry))) (Effect.Set dst (getD (now (globals .entry)) idx 0)) ⌝ }
 {
     if idx < globals.len() {
@@ -244,7 +242,7 @@ fn effect_of(
         ),
         Op::Mov { dst, src } => Effect::Set(dst, reg(regs, src)),
         Op::LoadI { dst, value } => Effect::Set(dst, value),
-        Op::LoadG { dst, idx } => global(dst, idx, globals),
+        Op::LoadG { dst, idx } => load_global(dst, idx, globals),
         Op::Jmp { target } => Effect::Goto(target),
         Op::JmpT { cond, target } => jump_if(Value(reg(regs, cond)).as_bool(), target),
         Op::JmpF { cond, target } => jump_if(!Value(reg(regs, cond)).as_bool(), target),
@@ -303,7 +301,7 @@ fn effect_of(
             std::num::wrapping_add_u64(reg(regs, base), offset),
         ),
         Op::Ret => Effect::Ret,
-        Op::Assert { cond } => unless_false(Value(reg(regs, cond)).as_bool()),
+        Op::Assert { cond } => assert(Value(reg(regs, cond)).as_bool()),
         Op::Halt => Effect::Halt,
         Op::Nop => Effect::Skip,
     }
@@ -325,8 +323,9 @@ pub fn word_effect(
     requires { ⌜ (tablesOk (tablesOf (now «switch_firsts») (now «switch_ends») (now «switch_entries»)) ≡ true) × (tablesOk (tablesOf (now «lookup_firsts») (now «lookup_ends») (now «lookup_entries»)) ≡ true) × (length (now defaults) ≡ length (now «lookup_firsts»)) ⌝ }
     ensures { λ r. ⌜ ((code : List ℕ) → r ≡ wordEffect (imageOf code (now (globals .entry)) (tablesOf (now («switch_firsts» .entry)) (now («switch_ends» .entry)) (now («switch_entries» .entry))) (tablesOf (now («lookup_firsts» .entry)) (now («lookup_ends» .entry)) (now («lookup_entries» .entry))) (now (defaults .entry))) (now (regs .entry)) (decodeOf w)) ⌝ }
 {
-    let Decoded::Op(op) = op::decode(w) else {
-        return Effect::Stop(UNLISTED);
+    let decoded = op::decode(w);
+    let Decoded::Op(op) = decoded else {
+        return Effect::Stop(decoded.refusal());
     };
     effect_of(
         op,

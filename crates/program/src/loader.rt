@@ -5,6 +5,7 @@ ghost use Rattle.program.specs.Image.{tablesOf, imageOf, rising, tablesO
 use anomaly::Refusal;
 use op::Checked;
 use op::Counts;
+use op::Op;
 
 // Whether all are below n.
 pub fn below(n: usize, xs: &[u64]) -> bool
@@ -51,7 +52,7 @@ fn ends_in_halt(code: &[u64]) -> bool
     if n == 0 {
         return true;
     }
-    code[n - 1] % 256 == 59
+    code[n - 1] % 256 == Op::HALT
 }
 
 // The first word that is refused.

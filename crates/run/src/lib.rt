@@ -205,7 +205,6 @@ fn apply(
     }
 }
 
-// The loop.
 fn go(
     from: Position,
     budget: Steps,

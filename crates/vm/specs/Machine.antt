@@ -123,13 +123,14 @@ pub record Acted : Type 0 where
   pub core : Core
   pub trail : List (List ℕ)
 
--- on code of n words: 'Empty code returns 0 and writes nothing'; a pc past the end returns 0 with no step
+-- a run from the pc p, on code of n words: frame 0 is written first
 unfoldable pub ran : ℕ → ℕ → Ran → Acted
 ran n p r = record { answer = ended (r .ending) (r .core .pc) (r .steps); core = stored (r .ending) p (r .core); trail = (root n ∷ []) ∷ r .trail }
 
 unfoldable pub idle : Core → Ran
 idle c = record { ending = 0; core = c; steps = 0; trail = [] }
 
+-- 'Empty code returns 0 and writes nothing'; a pc past the end returns 0 with no step
 unfoldable pub runs : Sizes → Image → ℕ → ℕ → Core → Acted
 runs lent im b zero c = record { answer = ended 0 (c .pc) 0; core = c; trail = [] }
 runs lent im b (suc k) c =
@@ -252,7 +253,7 @@ firstPage base = record { pages = record { base = base; bytes = replicate pageSi
 unfoldable pub firstLand : ℕ → Land
 firstLand base = boxed 0 0 (firstPage base) .land
 
--- registers and pc 0, frame 0 'as `reset` does, whatever was lent', page 0 with the box of none; slots and spare as they were
+-- nothing in use
 unfoldable pub blank : ℕ → Lent → Machine
 blank base l =
     record {
@@ -260,6 +261,7 @@ blank base l =
       lent = l;
     }
 
+-- registers and pc 0, frame 0 'as `reset` does, whatever was lent', page 0 with the box of none; slots and spare as they were
 unfoldable pub begin : ℕ → Lent → Machine
 begin base l = withFrames [] (unset ∷ []) (withPages (firstLand base .pages) (blank base l))
 

@@ -24,10 +24,11 @@ pub record Given : Type 0 where
 unfoldable pub filled : List ℕ → Land → Block → Given
 filled bs l b = record { value = b .address; land = setPages (setBytes (write (b .address - b .pages .base) bs (b .pages .bytes)) (b .pages)) l }
 
--- a block of n bytes and a kind; what lay there shows through
+-- a block as it is given
 unfoldable pub took : Land → Block → Given
 took l b = record { value = b .address; land = setPages (b .pages) l }
 
+-- a block of n bytes and a kind; what lay there shows through
 unfoldable pub allocates : ℕ → ℕ → Land → Given
 allocates kind n l = took l (allocated pageSize kind n (l .pages))
 
@@ -40,11 +41,12 @@ unfoldable pub optional : Option ℕ → Land → Given
 optional none l = record { value = l .pages .base + 16; land = l }
 optional (some v) l = boxed 1 v l
 
--- a name that is not there yet: its block, a String (3), and its bytes; then the old slots placed again if the table grows; then its slot
+-- a name's value v in the table: the old slots placed again if the table grows, then its slot
 unfoldable pub entered : ℕ → ℕ → List ℕ → ℕ → Pages → Given
 entered hash v slots names p =
     record { value = v; land = record { pages = p; slots = placed hash v (roomy (p .base) (p .bytes) slots (roomOf (length slots) names)); names = names + 1 } }
 
+-- a name that is not there yet: its block, a String (3), its bytes, then its slot
 unfoldable pub fresh : List ℕ → Land → Given
 fresh s l =
     let g = filled (payloadOf s (hashOf s)) l (allocated pageSize 3 (payloadSize (length s)) (l .pages)) in

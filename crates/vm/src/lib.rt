@@ -15,6 +15,7 @@ use gc::Alloc;
 use gc::AllocType;
 use gc::Gc;
 use gc::Metadata;
+use op::REGISTER_COUNT;
 use string::table::StrTable;
 
 // What a machine keeps. Frames, heap and slots are lent to each call.
@@ -102,7 +103,7 @@ impl State {
     pub fn set_register(self, register: usize, value: u64) -> Called
         ensures { λ r. ⌜ ((l : Lent) → told r l ≡ perform (light (putReg register value)) (machineOf self l)) ⌝ }
     {
-        if 32 <= register {
+        if REGISTER_COUNT <= register {
             return self.refused(Refusal::Operand);
         }
         let mut state = self;
@@ -115,7 +116,7 @@ impl State {
         }
     }
 
-    // Back to before the first run: registers, heap and names stay.
+    // pc and frame 0 unset, and depth 1; registers, heap and names stay.
     pub fn reset(self, frames: &mut [u64]) -> Called
         ensures { λ r. ⌜ ((heap slots spare : List ℕ) → told r (lentOf (now (frames .exit)) heap slots spare) ≡ perform (light reset) (machineOf self (lentOf (now (frames .entry)) heap slots spare))) ⌝ }
     {

@@ -46,13 +46,13 @@ fn begin(base: u64, frames: &mut [u64], heap: &mut [u8]) -> State
     ensures { λ r. ⌜ ((slots spare : List ℕ) → machineOf r (lentOf (now (frames .exit)) (now (heap .exit)) slots spare) ≡ begin base (lentOf (now (frames .entry)) (now (heap .entry)) slots spare)) ⌝ }
 {
     let mut state = blank(base);
-    let none = Gc {
+    let bare = Gc {
         base,
         pushed: 0,
         page: 0,
         len: 0,
     };
-    let Alloc::At(_, gc) = boxed(none, 0, 0, heap) else {
+    let Alloc::At(_, gc) = boxed(bare, 0, 0, heap) else {
         return state;
     };
     frames[0] = UNSET;

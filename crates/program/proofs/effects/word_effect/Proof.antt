@@ -9,22 +9,23 @@ use Rattle.program.proofs.effects.word_effect.Tie as tie
 returns : tie.Need-returns
 unfolding wordEffect
 returns c =
-    let decode = c .before .before in
-    λ code. rw (sym (decode .decode .ensures) ∙ c .enum-told .given .1) refl
+    let enum-told = c .before in
+    let decode = enum-told .before .before in
+    λ code. rw (c .refusal .ensures, enum-told .enum-told .given .1, sym (decode .decode .ensures) ∙ enum-told .enum-told .given .1) refl
 
 effect-of-requires : tie.Need-effect-of-requires
 effect-of-requires c κs =
-    let op = c .before in
-    let decode = op .before .before in
+    let decoded = c .before in
+    let decode = decoded .before .before in
     let start = decode .before .before .before .before .before .before .before .before .before in
-    (ok-op _ _ (sym (decode .decode .ensures) ∙ op .op .given .1), start .pre .0, start .pre .1, start .pre .2)
+    (ok-op _ _ (sym (decode .decode .ensures) ∙ decoded .decoded .given .1), start .pre .0, start .pre .1, start .pre .2)
 
 returns-2 : tie.Need-returns-2
 unfolding wordEffect
 returns-2 c =
-    let op = c .before .before in
-    let decode = op .before .before in
-    λ code. rw (sym (decode .decode .ensures) ∙ op .op .given .1) (c .effect-of .ensures code)
+    let decoded = c .before .before in
+    let decode = decoded .before .before in
+    λ code. rw (sym (decode .decode .ensures) ∙ decoded .decoded .given .1) (c .effect-of .ensures code)
 
 pub word-effect-spec : {M : Type 1} → statement M
 word-effect-spec =
@@ -33,6 +34,7 @@ word-effect-spec =
     (λ c κs. search needs)
     (λ c. search needs)
     (λ c. search needs)
+    (λ c κs. search needs)
     returns
     effect-of-requires
     returns-2)

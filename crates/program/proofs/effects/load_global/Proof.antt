@@ -1,8 +1,8 @@
--- `program::effects::global` meets its contract. Assumes nothing.
+-- `program::effects::load_global` meets its contract. Assumes nothing.
 use Rattle.program.proofs.Asks.{inside, outside}
 use borrow.Author.Needs.{needs}
-use Rattle.program.proofs.effects.global.Statement.{statement}
-use Rattle.program.proofs.effects.global.Tie as tie
+use Rattle.program.proofs.effects.load_global.Statement.{statement}
+use Rattle.program.proofs.effects.load_global.Tie as tie
 
 returns : tie.Need-returns
 returns c =
@@ -12,7 +12,7 @@ returns c =
 returns-2 : tie.Need-returns-2
 returns-2 c = outside _ _ _ (c .if1 .left)
 
-pub global-spec : {M : Type 1} → statement M
-global-spec =
+pub load-global-spec : {M : Type 1} → statement M
+load-global-spec =
     tie.close
     (tie.spec (λ c. search needs) (λ c. search needs) returns returns-2)
