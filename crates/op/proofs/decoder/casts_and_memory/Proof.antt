@@ -19,14 +19,14 @@ casts-and-memory-spec =
     rw (fits .before .match .keys2, c .checked2 .ensures, fits .fits3 .ensures, two-registers, one .byte-one2 .ensures, two .byte-two2 .ensures))
     (λ c. let two = c .before in let one = two .before in let fits = one .before in
     rw (fits .before .match .keys3, c .checked3 .ensures, fits .fits4 .ensures, two-registers, one .byte-one3 .ensures, two .byte-two3 .ensures))
-    (λ c. let three = c .before in let number = three .before in let two = number .before in let one = two .before in let fits-alloc = one .before in
-    rw (fits-alloc .before .match .keys4, c .checked4 .ensures, fits-alloc .fits-alloc .ensures, one .byte-one4 .ensures, two .byte-two4 .ensures, number .upper .ensures, three .byte-three .ensures))
-    (λ c. let two = c .before in let number = two .before in let one = number .before in let fits = one .before in
-    rw (fits .before .match .keys5, c .checked5 .ensures, fits .fits5 .ensures, two-and-number, one .byte-one5 .ensures, number .upper2 .ensures, two .byte-two5 .ensures))
-    (λ c. let number = c .before in let two = number .before in let one = two .before in let fits = one .before in
-    rw (fits .before .match .keys6, c .checked6 .ensures, fits .fits6 .ensures, two-and-number, one .byte-one6 .ensures, two .byte-two6 .ensures, number .upper3 .ensures))
-    (λ c. let number = c .before in let two = number .before in let one = two .before in let fits = one .before in
-    rw (fits .before .match .keys7, c .checked7 .ensures, fits .fits7 .ensures, two-and-number, one .byte-one7 .ensures, two .byte-two7 .ensures, number .upper4 .ensures))
+    (λ c. let three = c .before in let upper = three .before in let two = upper .before in let one = two .before in let fits-alloc = one .before in
+    rw (fits-alloc .before .match .keys4, c .checked4 .ensures, fits-alloc .fits-alloc .ensures, one .byte-one4 .ensures, two .byte-two4 .ensures, upper .upper .ensures, three .byte-three .ensures))
+    (λ c. let two = c .before in let upper = two .before in let one = upper .before in let fits = one .before in
+    rw (fits .before .match .keys5, c .checked5 .ensures, fits .fits5 .ensures, two-and-number, one .byte-one5 .ensures, upper .upper2 .ensures, two .byte-two5 .ensures))
+    (λ c. let upper = c .before in let two = upper .before in let one = two .before in let fits = one .before in
+    rw (fits .before .match .keys6, c .checked6 .ensures, fits .fits6 .ensures, two-and-number, one .byte-one6 .ensures, two .byte-two6 .ensures, upper .upper3 .ensures))
+    (λ c. let upper = c .before in let two = upper .before in let one = two .before in let fits = one .before in
+    rw (fits .before .match .keys7, c .checked7 .ensures, fits .fits7 .ensures, two-and-number, one .byte-one7 .ensures, two .byte-two7 .ensures, upper .upper4 .ensures))
     (λ c. let fits = c .before in rw (fits .before .match .keys8, c .checked8 .ensures, fits .fits8 .ensures, bare))
     (λ c. let one = c .before in let fits = one .before in
     rw (fits .before .match .keys9, c .checked9 .ensures, fits .fits9 .ensures, one-register, one .byte-one8 .ensures))

@@ -19,8 +19,8 @@ moves-and-jumps-spec =
     rw (fits .before .match .keys1, c .checked .ensures, fits .fits2 .ensures, two-registers, one .byte-one .ensures, two .byte-two .ensures))
     (λ c. let signed = c .before in let one = signed .before in let fits = one .before in
     rw (fits .before .match .keys2, c .checked2 .ensures, fits .fits3 .ensures, one-and-number, one .byte-one2 .ensures, signed .upper-signed .ensures))
-    (λ c. let number = c .before in let one = number .before in let fits = one .before in
-    rw (fits .before .match .keys3, c .checked3 .ensures, fits .fits4 .ensures, one-and-number, one .byte-one3 .ensures, number .upper .ensures))
+    (λ c. let upper = c .before in let one = upper .before in let fits = one .before in
+    rw (fits .before .match .keys3, c .checked3 .ensures, fits .fits4 .ensures, one-and-number, one .byte-one3 .ensures, upper .upper .ensures))
     (λ c. let target = c .before in let fits = target .before in
     rw (fits .before .match .keys4, c .checked4 .ensures, fits .fits5 .ensures, jump, target .target .ensures))
     (λ c. let target = c .before in let one = target .before in let fits = one .before in
@@ -31,15 +31,15 @@ moves-and-jumps-spec =
     rw (fits .before .match .keys7, c .checked7 .ensures, fits .fits8 .ensures, jump-immediate, one .byte-one6 .ensures, signed .upper-signed2 .ensures, target .target4 .ensures))
     (λ c. let target = c .before in let signed = target .before in let one = signed .before in let fits = one .before in
     rw (fits .before .match .keys8, c .checked8 .ensures, fits .fits9 .ensures, jump-immediate, one .byte-one7 .ensures, signed .upper-signed3 .ensures, target .target5 .ensures))
-    (λ c. let target = c .before in let number = target .before in let one = number .before in let fits = one .before in
-    rw (fits .before .match .keys9, c .checked9 .ensures, fits .fits10 .ensures, jump-two, one .byte-one8 .ensures, number .upper2 .ensures, target .target6 .ensures))
-    (λ c. let target = c .before in let number = target .before in let one = number .before in let fits = one .before in
-    rw (fits .before .match .keys10, c .checked10 .ensures, fits .fits11 .ensures, jump-two, one .byte-one9 .ensures, number .upper3 .ensures, target .target7 .ensures))
-    (λ c. let number = c .before in let two = number .before in let one = two .before in let fits = one .before in
-    rw (fits .before .match .keys11, c .checked11 .ensures, fits .fits12 .ensures, switch, one .byte-one10 .ensures, two .byte-two2 .ensures, number .upper4 .ensures))
-    (λ c. let number = c .before in let two = number .before in let one = two .before in let three = one .before in let fits = three .before in
-    rw (fits .before .match .keys12, c .checked12 .ensures, fits .fits13 .ensures, lookup, three .byte-three .ensures, one .byte-one11 .ensures, two .byte-two3 .ensures, number .upper5 .ensures))
-    (λ c. let number = c .before in let fits = number .before in
-    rw (fits .before .match .keys13, c .checked13 .ensures, fits .fits14 .ensures, only-number, number .upper6 .ensures))
-    (λ c. let number = c .before in let fits = number .before in
-    rw (last _ 26 13 (fits .before .before .pre .0) (fits .before .before .pre .1) (fits .before .match .rest), c .checked14 .ensures, fits .fits15 .ensures, only-number, number .upper7 .ensures)))
+    (λ c. let target = c .before in let upper = target .before in let one = upper .before in let fits = one .before in
+    rw (fits .before .match .keys9, c .checked9 .ensures, fits .fits10 .ensures, jump-two, one .byte-one8 .ensures, upper .upper2 .ensures, target .target6 .ensures))
+    (λ c. let target = c .before in let upper = target .before in let one = upper .before in let fits = one .before in
+    rw (fits .before .match .keys10, c .checked10 .ensures, fits .fits11 .ensures, jump-two, one .byte-one9 .ensures, upper .upper3 .ensures, target .target7 .ensures))
+    (λ c. let upper = c .before in let two = upper .before in let one = two .before in let fits = one .before in
+    rw (fits .before .match .keys11, c .checked11 .ensures, fits .fits12 .ensures, switch, one .byte-one10 .ensures, two .byte-two2 .ensures, upper .upper4 .ensures))
+    (λ c. let upper = c .before in let two = upper .before in let one = two .before in let three = one .before in let fits = three .before in
+    rw (fits .before .match .keys12, c .checked12 .ensures, fits .fits13 .ensures, lookup, three .byte-three .ensures, one .byte-one11 .ensures, two .byte-two3 .ensures, upper .upper5 .ensures))
+    (λ c. let upper = c .before in let fits = upper .before in
+    rw (fits .before .match .keys13, c .checked13 .ensures, fits .fits14 .ensures, only-number, upper .upper6 .ensures))
+    (λ c. let upper = c .before in let fits = upper .before in
+    rw (last _ 26 13 (fits .before .before .pre .0) (fits .before .before .pre .1) (fits .before .match .rest), c .checked14 .ensures, fits .fits15 .ensures, only-number, upper .upper7 .ensures)))
