@@ -62,12 +62,10 @@ fn put_ran(out: &mut [u8], ran: Ran) -> usize
 {
     let end = ran.end;
     let state = ran.state;
-    match end {
-        End::Halt { .. } => put_run(out, end, state),
-        End::Budget { .. } => put_run(out, end, state),
-        End::Stopped(_) => put_run(out, end, state),
-        End::Refused(why) => report::put_refusal(out, 0, why.number()),
-    }
+    let End::Refused(why) = end else {
+        return put_run(out, end, state);
+    };
+    report::put_refusal(out, 0, why.number())
 }
 
 // Every name in line order, its value the next global; the first that is refused ends it. `name` holds the bytes of one.
@@ -94,17 +92,10 @@ fn intern_names(
         };
         let called = s.intern(&name[..len], heap, slots, spare);
         let reply = called.reply;
-        match reply {
-            Reply::Value(v) => {
-                globals[global] = v;
-            }
-            Reply::Done => {
-                return called;
-            }
-            Reply::Refused(_) => {
-                return called;
-            }
-        }
+        let Reply::Value(v) = reply else {
+            return called;
+        };
+        globals[global] = v;
         s = called.state;
         i += 1;
     }
@@ -162,26 +153,14 @@ fn rate(
         spare,
     );
     let reply = begun.reply;
-    match reply {
-        Reply::Done => {}
-        Reply::Value(_) => {
-            return put_reply(out, reply);
-        }
-        Reply::Refused(_) => {
-            return put_reply(out, reply);
-        }
-    }
+    let Reply::Done = reply else {
+        return put_reply(out, reply);
+    };
     let named = intern_names(input, begun.state, globals, heap, slots, spare, name);
     let reply = named.reply;
-    match reply {
-        Reply::Done => {}
-        Reply::Value(_) => {
-            return put_reply(out, reply);
-        }
-        Reply::Refused(_) => {
-            return put_reply(out, reply);
-        }
-    }
+    let Reply::Done = reply else {
+        return put_reply(out, reply);
+    };
     let budget = head.budget as Steps;
     let ran = named.state.run(
         budget,
