@@ -11,7 +11,6 @@ use types.Run.{OneOf, miss}
 use denote.Enum.Declared.{tagOf}
 use borrow.Author.Tests.{leb-true}
 use Rattle.memory.specs.Lists.{over, write, Written}
-use Rattle.memory.proofs.Over.{take-over}
 use Rattle.anomaly.proofs.Numbers.{both}
 use Rattle.anomaly.specs.declared.End.{End}
 use Rattle.anomaly.proofs.End as ends
@@ -145,7 +144,3 @@ pub take-zeros : (n k : ℕ) → n ≤ k → take {A = ℕ} n (replicate k 0) �
 take-zeros zero k h = refl
 take-zeros (suc n) zero h = absurd (omega arith)
 take-zeros (suc n) (suc k) h = ap (λ (xs : List ℕ). 0 ∷ xs) (take-zeros n k (omega arith))
-
--- a section laid over a buffer, and taken out of it again
-pub section-back : (xs buf : List ℕ) (n : ℕ) → n ≡ length xs → n ≤ length buf → take n (over xs buf) ≡ xs
-section-back xs buf n e h = rw e (take-over xs buf (rw (← e) h))
