@@ -7,25 +7,29 @@ use native.Mathlib.Omega.{arith}
 use native.Mathlib.Nat.{zero-add}
 use lib.ListN.{length, take, set, replicate, length-replicate}
 use lib.Dec.{leb}
+use types.Run.{OneOf, miss}
+use denote.Enum.Declared.{tagOf}
 use borrow.Author.Tests.{leb-true}
 use Rattle.memory.specs.Lists.{over, write, Written}
-use Rattle.memory.proofs.Over.{take-over}
 use Rattle.anomaly.proofs.Numbers.{both}
-use Rattle.anomaly.specs.declared.Refusal.{Refusal}
-use Rattle.anomaly.specs.Table.{numberOfRefusal}
+use Rattle.anomaly.specs.declared.End.{End}
+use Rattle.anomaly.proofs.End as ends
+use Rattle.anomaly.specs.Table.{numberOfEnd, pcOfEnd, stepsOfEnd}
 use Rattle.text.specs.declared.Head.{Head}
 use Rattle.text.specs.declared.sections.Section.the-variants.{Globals}
 use Rattle.text.specs.Lines.{linesOf}
 use Rattle.text.specs.Text.{textOk}
 use Rattle.text.specs.Sections.{sectionIn}
 use Rattle.text.specs.Names.{Name, namesOf}
-use Rattle.report.specs.Report.{longest, refusalOf}
+use Rattle.report.specs.Report.{longest, reportOf, refusalOf}
 use Rattle.program.specs.Image.{Image, Tables, tablesOf, imageOf}
 use Rattle.vm.specs.Machine.{Lent, Machine, Answer, ended, value, done, refused, Called, run, host, intern, perform, Started, declined, begun, start, blank}
 use Rattle.vm.specs.declared.State.{State}
 use Rattle.vm.specs.declared.Reply.{Reply}
+use Rattle.vm.proofs.Reply as replies
+use Rattle.vm.specs.Told.{answerOf}
 use Rattle.vm.specs.Told.{lentOf, machineOf, saidOf, startedOn}
-use Rattle.image.specs.Runner.{imageWith, imageIn, Entered, entersOn, enters, Says, replyText, ranText, toldText, enteredText, namedText, startedText}
+use Rattle.image.specs.Runner.{imageWith, imageIn, Entered, entersOn, enters, Says, summaryOf, replyText, ranText, toldText, enteredText, namedText, startedText}
 
 pub text-short : (s : List ℕ) → textOk s ≡ true → length s ≤ 65536
 unfolding textOk
@@ -75,13 +79,18 @@ module _ (s : List ℕ) (h : Head) where
 
 -- ---- a rating from its start on
 
-pub value-not-done : (r : Reply) (v : ℕ) → r ≡ Reply.Value v → saidOf r ≡ done → ⊥
+-- the tags of a reply: a value 0, done 1, refused 2
+pub not-done : (r : Reply) → OneOf (0 ∷ 2 ∷ []) (tagOf replies.the-type r) → saidOf r ≡ done → ⊥
 unfolding saidOf
-value-not-done r v e z = let q : _≡_ {A = Answer} (value v) done = rw e at z in let n : _≡_ {A = ℕ} 0 1 = cc in absurd (omega arith)
+not-done (Reply.Value v) is e = let z : _≡_ {A = ℕ} 0 1 = cc in absurd (omega arith)
+not-done Reply.Done is e = absurd (miss (0 ∷ 2 ∷ []) 1 tt is)
+not-done (Reply.Refused why) is e = let z : _≡_ {A = ℕ} 0 1 = cc in absurd (omega arith)
 
-pub refused-not-done : (r : Reply) (why : Refusal) → r ≡ Reply.Refused why → saidOf r ≡ done → ⊥
+pub not-value : (r : Reply) → OneOf (1 ∷ 2 ∷ []) (tagOf replies.the-type r) → (v : ℕ) → saidOf r ≡ value v → ⊥
 unfolding saidOf
-refused-not-done r why e z = let q : _≡_ {A = Answer} (refused (numberOfRefusal why)) done = rw e at z in let n : _≡_ {A = ℕ} 0 1 = cc in absurd (omega arith)
+not-value (Reply.Value w) is v e = absurd (miss (1 ∷ 2 ∷ []) 0 tt is)
+not-value Reply.Done is v e = let z : _≡_ {A = ℕ} 0 1 = cc in absurd (omega arith)
+not-value (Reply.Refused why) is v e = let z : _≡_ {A = ℕ} 0 1 = cc in absurd (omega arith)
 
 pub done-is : (r : Reply) → r ≡ Reply.Done → saidOf r ≡ done
 unfolding saidOf
@@ -115,6 +124,14 @@ says-as before after r t u e h = rw (← e) h
 
 -- ---- the text
 
+-- the tags of an end: Halt 0, the budget 1, stopped 2, refused 3
+pub run-reported : (end : End) → OneOf (0 ∷ 1 ∷ 2 ∷ []) (tagOf ends.the-type end) → (s : State) → ranText (answerOf end) s ≡ reportOf (summaryOf (numberOfEnd end) (pcOfEnd end) (stepsOfEnd end) s) (s .regs)
+unfolding answerOf ranText
+run-reported (End.Halt pc steps) is s = refl
+run-reported (End.Budget pc steps) is s = refl
+run-reported (End.Stopped why) is s = refl
+run-reported (End.Refused why) is s = absurd (miss (0 ∷ 1 ∷ 2 ∷ []) 3 tt is)
+
 pub written-says : (text before after : List ℕ) (r : ℕ) → Written before 0 text after r → r ≤ longest → Says before text after r
 unfolding write
 written-says text before after r w h = (w .ends ∙ zero-add (length text), w .is, h)
@@ -127,7 +144,3 @@ pub take-zeros : (n k : ℕ) → n ≤ k → take {A = ℕ} n (replicate k 0) �
 take-zeros zero k h = refl
 take-zeros (suc n) zero h = absurd (omega arith)
 take-zeros (suc n) (suc k) h = ap (λ (xs : List ℕ). 0 ∷ xs) (take-zeros n k (omega arith))
-
--- a section laid over a buffer, and taken out of it again
-pub section-back : (xs buf : List ℕ) (n : ℕ) → n ≡ length xs → n ≤ length buf → take n (over xs buf) ≡ xs
-section-back xs buf n e h = rw e (take-over xs buf (rw (← e) h))

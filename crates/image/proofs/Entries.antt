@@ -7,18 +7,15 @@ use native.Mathlib.Omega.{arith}
 use lib.ListN.{length, take, drop, set, length-set}
 use Rattle.memory.specs.Lists.{over}
 use Rattle.memory.proofs.Over.{length-over, take-over}
-use Rattle.anomaly.specs.declared.Refusal.{Refusal}
-use Rattle.anomaly.specs.Table.{numberOfRefusal}
 use Rattle.text.specs.declared.sections.Section.the-variants.{Globals}
 use Rattle.text.specs.declared.names.Named.{Named}
 use Rattle.text.specs.Lines.{linesOf}
 use Rattle.text.specs.Sections.{sectionIn}
 use Rattle.text.specs.Names.{Name, namesOf, nth, nameOf, answerOf, bytesOf}
 use Rattle.text.proofs.Indices.{nth-some, nth-none, global-within, names-in, name-short}
-use Rattle.vm.specs.declared.State.{State}
 use Rattle.vm.specs.declared.Reply.{Reply}
+use Rattle.vm.specs.Told.{saidOf}
 use Rattle.vm.specs.Machine.{Lent, Machine, Answer, ended, value, done, refused, Called, host, intern, perform}
-use Rattle.vm.specs.Told.{lentOf, machineOf, saidOf}
 use Rattle.image.specs.Runner.{Entered, entersOn, enters}
 
 -- a name that was answered
@@ -41,7 +38,7 @@ pub record Entering (s : List ℕ) (m₀ : List ℕ → Machine) (g₀ : List �
 pub entering-first : (s : List ℕ) (m : List ℕ → Machine) (g : List ℕ) → Entering s m g m g 0
 entering-first s m g = record { left = λ frames. refl; few = omega arith; long = refl }
 
-module _ (s : List ℕ) (m₀ : List ℕ → Machine) (g₀ : List ℕ) (m : List ℕ → Machine) (g : List ℕ) (i : ℕ) (e : Entering s m₀ g₀ m g i) where
+module _ {s : List ℕ} {m₀ : List ℕ → Machine} {g₀ : List ℕ} {m : List ℕ → Machine} {g : List ℕ} {i : ℕ} (e : Entering s m₀ g₀ m g i) where
   abbrev names : List Name
   names = namesOf 0 (linesOf s)
 
@@ -49,7 +46,7 @@ module _ (s : List ℕ) (m₀ : List ℕ → Machine) (g₀ : List ℕ) (m : Lis
   unfolding enters
   entered-all q frames = (rw (nth-none i names (none-by (nameOf i s) q)) at (e .left frames))
 
-  module _ (global len : ℕ) (q : answerOf (nameOf i s) ≡ Named.At global len) where
+  module _ {global len : ℕ} (q : answerOf (nameOf i s) ≡ Named.At global len) where
     here : (name : Name) × (nameOf i s ≡ some name) × (name .global ≡ global) × (length (name .bytes) ≡ len)
     here = named-by (nameOf i s) global len q
 
@@ -60,7 +57,7 @@ module _ (s : List ℕ) (m₀ : List ℕ → Machine) (g₀ : List ℕ) (m : Lis
     pub bytes-long : length (bytesOf (nameOf i s)) ≡ len
     bytes-long = rw bytes-are (here .3)
 
-    module _ (short : length s ≤ 65536) (name name′ : List ℕ) (room : 32768 ≤ length name) (laid : name′ ≡ over (bytesOf (nameOf i s)) name) where
+    module _ (short : length s ≤ 65536) (name : List ℕ) {name′ : List ℕ} (room : 32768 ≤ length name) (laid : name′ ≡ over (bytesOf (nameOf i s)) name) where
       within : length (bytesOf (nameOf i s)) ≤ length name
       within = let k = name-short i s in omega arith
 
@@ -77,14 +74,8 @@ module _ (s : List ℕ) (m₀ : List ℕ → Machine) (g₀ : List ℕ) (m : Lis
     more-left = nth-some i names (here .0) (here .1) .0
 
     -- the call of this name
-    abbrev call : List ℕ → Called
-    call frames = perform (host (intern (bytesOf (nameOf i s)))) (m frames)
-
     abbrev its : List ℕ → Called
     its frames = perform (host (intern (here .0 .bytes))) (m frames)
-
-    call-is : (frames : List ℕ) → call frames ≡ its frames
-    call-is frames = ap (λ (b : List ℕ). perform (host (intern b)) (m frames)) bytes-are
 
     turn : (frames : List ℕ) → entersOn (its frames .answer) (its frames) g (here .0 .global) (enters (drop (i + 1) names)) ≡ enters names (m₀ frames) g₀
     unfolding enters
@@ -97,19 +88,6 @@ module _ (s : List ℕ) (m₀ : List ℕ → Machine) (g₀ : List ℕ) (m : Lis
     unfolding entersOn
     value-on frames v p = answered frames p
 
-    value-by : (frames : List ℕ) (v : ℕ) (m′ : Machine) → record { answer = value v; machine = m′ } ≡ call frames → enters (drop (i + 1) names) m′ (set g global v) ≡ enters names (m₀ frames) g₀
-    value-by frames v m′ c =
-        let is : record { answer = value v; machine = m′ } ≡ its frames = c ∙ call-is frames in
-        ap₂ (λ (x : Machine) (y : ℕ). enters (drop (i + 1) names) x (set g y v)) (ap (λ (x : Called). x .machine) is) (sym (here .2)) ∙ value-on frames v (sym (ap (λ (x : Called). x .answer) is))
-
-    pub entering-next : (v : ℕ) (m′ : List ℕ → Machine) → ((frames : List ℕ) → record { answer = value v; machine = m′ frames } ≡ call frames) → Entering s m₀ g₀ m′ (set g global v) (i + 1)
-    entering-next v m′ c =
-        record {
-          left = λ frames. value-by frames v (m′ frames) (c frames);
-          few = let k = more-left in omega arith;
-          long = length-set g global v ∙ e .long;
-        }
-
     ended-on : (frames : List ℕ) (a : Answer) → its frames .answer ≡ a → ((v : ℕ) → a ≡ value v → ⊥) → record { called = its frames; globals = g } ≡ enters names (m₀ frames) g₀
     unfolding entersOn
     ended-on frames (value v) p n = absurd (n v refl)
@@ -117,20 +95,33 @@ module _ (s : List ℕ) (m₀ : List ℕ → Machine) (g₀ : List ℕ) (m : Lis
     ended-on frames done p n = answered frames p
     ended-on frames (ended k pc steps) p n = answered frames p
 
-    pub entered-some : (x : List ℕ → Called) → ((frames : List ℕ) → x frames ≡ call frames) → ((frames : List ℕ) (v : ℕ) → x frames .answer ≡ value v → ⊥)
-        → (frames : List ℕ) → record { called = x frames; globals = g } ≡ enters names (m₀ frames) g₀
-    entered-some x c n frames =
-        let is : x frames ≡ its frames = c frames ∙ call-is frames in
-        ap (λ (y : Called). record { called = y; globals = g }) is ∙ ended-on frames (its frames .answer) refl (λ v z. n frames v (ap (λ (y : Called). y .answer) is ∙ z))
+    -- the call as it was made, of bytes that are the name's
+    module _ {b : List ℕ} (back : b ≡ bytesOf (nameOf i s)) where
+      abbrev call : List ℕ → Called
+      call frames = perform (host (intern b)) (m frames)
+
+      call-is : (frames : List ℕ) → call frames ≡ its frames
+      call-is frames = ap (λ (x : List ℕ). perform (host (intern x)) (m frames)) (back ∙ bytes-are)
+
+      value-by : (frames : List ℕ) (v : ℕ) (m′ : Machine) → record { answer = value v; machine = m′ } ≡ call frames → enters (drop (i + 1) names) m′ (set g global v) ≡ enters names (m₀ frames) g₀
+      value-by frames v m′ c =
+          let is : record { answer = value v; machine = m′ } ≡ its frames = c ∙ call-is frames in
+          ap₂ (λ (x : Machine) (y : ℕ). enters (drop (i + 1) names) x (set g y v)) (ap (λ (x : Called). x .machine) is) (sym (here .2)) ∙ value-on frames v (sym (ap (λ (x : Called). x .answer) is))
+
+      pub entering-next : {r : Reply} {v : ℕ} → r ≡ Reply.Value v → (m′ : List ℕ → Machine) → ((frames : List ℕ) → record { answer = saidOf r; machine = m′ frames } ≡ call frames) → Entering s m₀ g₀ m′ (set g global v) (i + 1)
+      unfolding saidOf
+      entering-next {r} {v} is m′ c =
+          record {
+            left = λ frames. value-by frames v (m′ frames) (rw is at (c frames));
+            few = let k = more-left in omega arith;
+            long = length-set g global v ∙ e .long;
+          }
+
+      pub entered-some : (x : List ℕ → Called) → ((frames : List ℕ) → x frames ≡ call frames) → ((frames : List ℕ) (v : ℕ) → x frames .answer ≡ value v → ⊥)
+          → (frames : List ℕ) → record { called = x frames; globals = g } ≡ enters names (m₀ frames) g₀
+      entered-some x c n frames =
+          let is : x frames ≡ its frames = c frames ∙ call-is frames in
+          ap (λ (y : Called). record { called = y; globals = g }) is ∙ ended-on frames (its frames .answer) refl (λ v z. n frames v (ap (λ (y : Called). y .answer) is ∙ z))
 
   pub few-names : i ≤ length s
   few-names = let k = e .few in let n = names-in s in omega arith
-
--- a reply that has no value
-pub done-says : (r : Reply) → r ≡ Reply.Done → (v : ℕ) → saidOf r ≡ value v → ⊥
-unfolding saidOf
-done-says r e v z = let q : _≡_ {A = Answer} done (value v) = rw e at z in let n : _≡_ {A = ℕ} 0 1 = cc in absurd (omega arith)
-
-pub refused-says : (r : Reply) (why : Refusal) → r ≡ Reply.Refused why → (v : ℕ) → saidOf r ≡ value v → ⊥
-unfolding saidOf
-refused-says r why e v z = let q : _≡_ {A = Answer} (refused (numberOfRefusal why)) (value v) = rw e at z in let n : _≡_ {A = ℕ} 0 1 = cc in absurd (omega arith)

@@ -6,10 +6,12 @@ use mathlib.Core.List.{List, [], _∷_}
 use native.Mathlib.Omega.{arith}
 use native.Mathlib.Nat.{mod-lt}
 use lib.ListN.{length, take, drop, replicate, length-replicate}
+use lib.Seq.{length-take-le}
 use lib.Pow.{pow-add, pow-lt}
 use lib.Dec.{leb, eqb}
 use borrow.Author.Tests.{leb-true, eqb-true, eqb-false}
 use Rattle.memory.specs.Lists.{over, part}
+use Rattle.memory.proofs.Over.{length-over, take-over}
 use Rattle.anomaly.proofs.Numbers.{both}
 use Rattle.gc.specs.Lent.{pageSize}
 use Rattle.anomaly.specs.declared.Refusal.{Refusal}
@@ -20,13 +22,11 @@ use Rattle.text.specs.Digits.{digitOf, readOn, field}
 use Rattle.text.specs.Lines.{payloadOf, upTo}
 use Rattle.text.specs.Text.{textOk, headIn, headOf, readOf}
 use Rattle.text.specs.Sections.{sectionIn}
-use Rattle.text.proofs.Tables.{switch-ends-firsts, lookup-ends-firsts, lookup-defaults-firsts}
 use Rattle.program.specs.Image.{Image, tablesOf, imageOf}
-use Rattle.vm.specs.Machine.{Lent}
 use Rattle.vm.specs.Told.{lentOf}
-use Rattle.image.specs.declared.Tables.{Tables}
-use Rattle.image.specs.Runner.{imageIn, lentFor, roomFor}
-use Rattle.image.proofs.Answers.{take-zeros, section-back}
+use Rattle.image.specs.declared.TableCounts.{TableCounts}
+use Rattle.image.specs.Runner.{imageIn, lentFor, fits, roomFor}
+use Rattle.image.proofs.Answers.{take-zeros}
 
 -- ---- the budget has 8 digits
 
@@ -64,95 +64,81 @@ budget-small s = field-small 28 8 (payloadOf (take (upTo s) s))
 
 -- ---- the test of 10
 
-pub record Roomy (h : Head) (s : List ℕ) : Type 0 where
+pub record Fits (h : Head) (words globals : ℕ) (switches lookups : TableCounts) : Type 0 where
   pub pages : h .pages ≤ 8
   pub frames : h .frames ≤ 4096
   pub slots : h .slots ≤ 4096
-  pub words : length (sectionIn Code s) ≤ 4096
-  pub globals : length (sectionIn Globals s) ≤ 4096
-  pub switches : length (sectionIn SwitchFirsts s) ≤ 256
-  pub targets : length (sectionIn SwitchEntries s) ≤ 4096
-  pub lookups : length (sectionIn LookupFirsts s) ≤ 256
-  pub values : length (sectionIn LookupEntries s) ≤ 4096
+  pub words-fit : words ≤ 4096
+  pub globals-fit : globals ≤ 4096
+  pub switches-fit : switches .tables ≤ 256
+  pub targets-fit : switches .entries ≤ 4096
+  pub lookups-fit : lookups .tables ≤ 256
+  pub values-fit : lookups .entries ≤ 4096
 
-pub roomy : (h : Head) (s : List ℕ) → roomFor h s ≡ true → Roomy h s
-unfolding roomFor
-roomy h s e =
-    let head = both (leb (h .pages) 8 && (leb (h .frames) 4096 && leb (h .slots) 4096)) _ e in
-    let pages = both (leb (h .pages) 8) _ (head .0) in
-    let rest = both (leb (h .frames) 4096) _ (pages .1) in
-    let parts = both (leb (length (sectionIn Code s)) 4096 && leb (length (sectionIn Globals s)) 4096) _ (head .1) in
-    let code = both (leb (length (sectionIn Code s)) 4096) _ (parts .0) in
-    let tables = both (leb (length (sectionIn SwitchFirsts s)) 256 && leb (length (sectionIn SwitchEntries s)) 4096) _ (parts .1) in
-    let switches = both (leb (length (sectionIn SwitchFirsts s)) 256) _ (tables .0) in
-    let lookups = both (leb (length (sectionIn LookupFirsts s)) 256) _ (tables .1) in
-    record {
-      pages = leb-true _ _ (pages .0);
-      frames = leb-true _ _ (rest .0);
-      slots = leb-true _ _ (rest .1);
-      words = leb-true _ _ (code .0);
-      globals = leb-true _ _ (code .1);
-      switches = leb-true _ _ (switches .0);
-      targets = leb-true _ _ (switches .1);
-      lookups = leb-true _ _ (lookups .0);
-      values = leb-true _ _ (lookups .1);
-    }
+module _ (h : Head) (words globals : ℕ) (switches lookups : TableCounts) where
+  pub fitting : fits h words globals switches lookups ≡ true → Fits h words globals switches lookups
+  fitting e =
+      let head = both (leb (h .pages) 8 && (leb (h .frames) 4096 && leb (h .slots) 4096)) _ e in
+      let pages = both (leb (h .pages) 8) _ (head .0) in
+      let rest = both (leb (h .frames) 4096) _ (pages .1) in
+      let parts = both (leb words 4096 && leb globals 4096) _ (head .1) in
+      let code = both (leb words 4096) _ (parts .0) in
+      let tables = both (leb (switches .tables) 256 && leb (switches .entries) 4096) _ (parts .1) in
+      let jumps = both (leb (switches .tables) 256) _ (tables .0) in
+      let maps = both (leb (lookups .tables) 256) _ (tables .1) in
+      record {
+        pages = leb-true _ _ (pages .0);
+        frames = leb-true _ _ (rest .0);
+        slots = leb-true _ _ (rest .1);
+        words-fit = leb-true _ _ (code .0);
+        globals-fit = leb-true _ _ (code .1);
+        switches-fit = leb-true _ _ (jumps .0);
+        targets-fit = leb-true _ _ (jumps .1);
+        lookups-fit = leb-true _ _ (maps .0);
+        values-fit = leb-true _ _ (maps .1);
+      }
 
--- the counts are the sections' lengths
-pub room-tested : (h : Head) (s : List ℕ) (t : Bool) (words globals : ℕ) (switches lookups : Tables) → words ≡ length (sectionIn Code s) → globals ≡ length (sectionIn Globals s)
-    → switches .tables ≡ length (sectionIn SwitchFirsts s) → switches .entries ≡ length (sectionIn SwitchEntries s) → lookups .tables ≡ length (sectionIn LookupFirsts s) → lookups .entries ≡ length (sectionIn LookupEntries s)
-    → t ≡ ((leb (h .pages) 8 && (leb (h .frames) 4096 && leb (h .slots) 4096)) && ((leb words 4096 && leb globals 4096) && ((leb (switches .tables) 256 && leb (switches .entries) 4096) && (leb (lookups .tables) 256 && leb (lookups .entries) 4096))))
-    → t ≡ roomFor h s
-unfolding roomFor
-room-tested h s t words globals switches lookups a b c d e f q = rw (a, b, c, d, e, f) at q
+  -- the counts are the sections' lengths
+  pub counted : (s : List ℕ) → words ≡ length (sectionIn Code s) → globals ≡ length (sectionIn Globals s)
+      → switches .tables ≡ length (sectionIn SwitchFirsts s) → switches .entries ≡ length (sectionIn SwitchEntries s) → lookups .tables ≡ length (sectionIn LookupFirsts s) → lookups .entries ≡ length (sectionIn LookupEntries s)
+      → roomFor h s ≡ fits h words globals switches lookups
+  unfolding roomFor
+  counted s a b c d e f = rw (a, b, c, d, e, f) refl
 
 -- ---- the parts of the buffers
 
--- a section laid over a buffer, and the part that it fills
-pub record Filled (xs buf after : List ℕ) (n : ℕ) : Type 0 where
-  pub count : n ≡ length xs
-  pub laid : after ≡ over xs buf
-  pub room : n ≤ length buf
+-- the first n of a buffer
+pub record Part (xs buf : List ℕ) (n : ℕ) : Type 0 where
+  pub inside : n ≤ length buf
+  pub long : n ≡ length (take n buf)
+  pub is : take n buf ≡ xs
 
-filled-part : (xs buf after : List ℕ) (n : ℕ) → Filled xs buf after n → take n after ≡ xs
-filled-part xs buf after n f = rw (f .laid) (section-back xs buf n (f .count) (f .room))
+-- a section laid over k zeros
+pub section-part : {xs after : List ℕ} {n : ℕ} (k : ℕ) → n ≡ length xs → after ≡ over xs (replicate k 0) → n ≤ k → Part xs after n
+section-part {xs} {after} {n} k count laid room =
+    let zeros : length (replicate {A = ℕ} k 0) ≡ k = length-replicate k 0 in
+    let fits : length xs ≤ length (replicate {A = ℕ} k 0) = omega arith in
+    let inside : n ≤ length after = rw (laid, length-over) (omega arith) in
+    record { inside = inside; long = sym (length-take-le n after inside); is = rw (laid, count) (take-over xs (replicate k 0) fits) }
 
-pub filled : (xs buf after : List ℕ) (n : ℕ) → n ≡ length xs → after ≡ over xs buf → n ≤ length buf → Filled xs buf after n
-filled xs buf after n c l r = record { count = c; laid = l; room = r }
+-- n of k zeros
+pub zeros-part : {n : ℕ} (k : ℕ) → n ≤ k → Part (replicate n 0) (replicate k 0) n
+zeros-part {n} k room =
+    let zeros : length (replicate {A = ℕ} k 0) ≡ k = length-replicate k 0 in
+    let inside : n ≤ length (replicate {A = ℕ} k 0) = omega arith in
+    record { inside = inside; long = sym (length-take-le n (replicate k 0) inside); is = take-zeros n k room }
 
-module _ (s : List ℕ) where
-  pub parts-are : (code globals sf se st lf le lv ld code′ globals′ sf′ se′ st′ lf′ le′ lv′ ld′ : List ℕ) (words count tables targets maps values : ℕ)
-      → Filled (sectionIn Code s) code code′ words → Filled (sectionIn Globals s) globals globals′ count
-      → Filled (sectionIn SwitchFirsts s) sf sf′ tables → Filled (sectionIn SwitchEnds s) se se′ tables → Filled (sectionIn SwitchEntries s) st st′ targets
-      → Filled (sectionIn LookupFirsts s) lf lf′ maps → Filled (sectionIn LookupEnds s) le le′ maps → Filled (sectionIn LookupEntries s) lv lv′ values → Filled (sectionIn LookupDefaults s) ld ld′ maps
-      → imageOf (take words code′) (take count globals′) (tablesOf (take tables sf′) (take tables se′) (take targets st′)) (tablesOf (take maps lf′) (take maps le′) (take values lv′)) (take maps ld′) ≡ imageIn s
-  parts-are code globals sf se st lf le lv ld code′ globals′ sf′ se′ st′ lf′ le′ lv′ ld′ words count tables targets maps values a b c d e f g h i =
-      let x₁ = filled-part _ code code′ words a in
-      let x₂ = filled-part _ globals globals′ count b in
-      let x₃ = filled-part _ sf sf′ tables c in
-      let x₄ = filled-part _ se se′ tables d in
-      let x₅ = filled-part _ st st′ targets e in
-      let x₆ = filled-part _ lf lf′ maps f in
-      let x₇ = filled-part _ le le′ maps g in
-      let x₈ = filled-part _ lv lv′ values h in
-      let x₉ = filled-part _ ld ld′ maps i in
-      rw (x₁, x₂, x₃, x₄, x₅, x₆, x₇, x₈, x₉) refl
+pub image-of-parts : {code globals sf se st lf le lv ld : List ℕ} {words count switches targets lookups values : ℕ} (s : List ℕ)
+    → Part (sectionIn Code s) code words → Part (sectionIn Globals s) globals count
+    → Part (sectionIn SwitchFirsts s) sf switches → Part (sectionIn SwitchEnds s) se switches → Part (sectionIn SwitchEntries s) st targets
+    → Part (sectionIn LookupFirsts s) lf lookups → Part (sectionIn LookupEnds s) le lookups → Part (sectionIn LookupEntries s) lv values → Part (sectionIn LookupDefaults s) ld lookups
+    → imageOf (take words code) (take count globals) (tablesOf (take switches sf) (take switches se) (take targets st)) (tablesOf (take lookups lf) (take lookups le) (take values lv)) (take lookups ld) ≡ imageIn s
+image-of-parts s a b c d e f g h i = rw (a .is, b .is, c .is, d .is, e .is, f .is, g .is, h .is, i .is) refl
 
-pub zeros-for : (h : Head) (s : List ℕ) → Roomy h s → (frames heap slots spare : List ℕ)
-    → lentOf frames heap slots spare ≡ lentOf (replicate 4096 0) (replicate 32768 0) (replicate 4096 0) (replicate 4096 0)
+pub lent-of-parts : {frames heap slots spare : List ℕ} (h : Head)
+    → Part (replicate (h .frames) 0) frames (h .frames) → Part (replicate (h .pages * pageSize) 0) heap (h .pages * pageSize) → Part (replicate (h .slots) 0) slots (h .slots) → Part (replicate (h .slots) 0) spare (h .slots)
     → lentOf (take (h .frames) frames) (take (h .pages * pageSize) heap) (take (h .slots) slots) (take (h .slots) spare) ≡ lentFor h
-zeros-for h s r frames heap slots spare e =
-    let f = ap (λ (l : Lent). l .frames) e in
-    let p = ap (λ (l : Lent). l .heap) e in
-    let k = ap (λ (l : Lent). l .slots) e in
-    let q = ap (λ (l : Lent). l .spare) e in
-    let bytes : h .pages * 4096 ≤ 32768 = let z = r .pages in omega arith in
-    rw (f, p, k, q, take-zeros (h .frames) 4096 (r .frames), take-zeros (h .pages * 4096) 32768 bytes, take-zeros (h .slots) 4096 (r .slots)) refl
-
-pub lent-long : {frames heap slots spare : List ℕ} → lentOf frames heap slots spare ≡ lentOf (replicate 4096 0) (replicate 32768 0) (replicate 4096 0) (replicate 4096 0)
-    → (length frames ≡ 4096) × (length heap ≡ 32768) × (length slots ≡ 4096) × (length spare ≡ 4096)
-lent-long e =
-    (ap (λ (l : Lent). length (l .frames)) e ∙ length-replicate {A = ℕ} 4096 0, ap (λ (l : Lent). length (l .heap)) e ∙ length-replicate {A = ℕ} 32768 0, ap (λ (l : Lent). length (l .slots)) e ∙ length-replicate {A = ℕ} 4096 0, ap (λ (l : Lent). length (l .spare)) e ∙ length-replicate {A = ℕ} 4096 0)
+lent-of-parts h a b c d = rw (a .is, b .is, c .is, d .is) refl
 
 -- ---- the reading
 

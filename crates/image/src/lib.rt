@@ -1,10 +1,9 @@
 // The image runner: from the text of an image to the text of its report.
 ghost use mathlib.Core.Path.{_≡_};
-ghost use mathlib.Core.Bool.{true, _&&_};
+ghost use mathlib.Core.Bool.{true};
 ghost use mathlib.Core.List.{List};
 ghost use Prim.Native.Nat.{ℕ, _+_, _*_, _≤_, _<_, _^_};
-ghost use lib.ListN.{length, replicate};
-ghost use lib.Dec.{leb};
+ghost use lib.ListN.{length};
 ghost use Rattle.memory.specs.Lists.{over};
 ghost use Rattle.anomaly.specs.Table.{numberOfEnd, pcOfEnd, stepsOfEnd};
 ghost use Rattle.report.specs.Report.{longest, reportOf, refusalOf};
@@ -17,7 +16,7 @@ ghost use Rattle.vm.specs.Machine.{start, run, perform};
 ghost use Rattle.vm.specs.Told.{lentOf, machineOf, saidOf, told};
 ghost use Rattle.vm.specs.Told.{answerOf};
 ghost use Rattle.image.specs.Runner as Runner;
-ghost use Rattle.image.specs.Runner.{imageWith, imageIn, lentFor, roomFor, Entered, enters, replyText, summaryOf, ranText, toldText, namedText, startedText, imageText, Says};
+ghost use Rattle.image.specs.Runner.{imageWith, imageIn, lentFor, fits, roomFor, Entered, enters, replyText, summaryOf, ranText, toldText, namedText, startedText, imageText, Says};
 use anomaly::End;
 use anomaly::Refusal;
 use anomaly::Steps;
@@ -62,12 +61,10 @@ fn put_ran(out: &mut [u8], ran: Ran) -> usize
 {
     let end = ran.end;
     let state = ran.state;
-    match end {
-        End::Halt { .. } => put_run(out, end, state),
-        End::Budget { .. } => put_run(out, end, state),
-        End::Stopped(_) => put_run(out, end, state),
-        End::Refused(why) => report::put_refusal(out, 0, why.number()),
-    }
+    let End::Refused(why) = end else {
+        return put_run(out, end, state);
+    };
+    report::put_refusal(out, 0, why.number())
 }
 
 // Every name in line order, its value the next global; the first that is refused ends it. `name` holds the bytes of one.
@@ -94,17 +91,10 @@ fn intern_names(
         };
         let called = names::intern(s, &name[..len], heap, slots, spare);
         let reply = called.reply;
-        match reply {
-            Reply::Value(v) => {
-                globals[global] = v;
-            }
-            Reply::Done => {
-                return called;
-            }
-            Reply::Refused(_) => {
-                return called;
-            }
-        }
+        let Reply::Value(v) = reply else {
+            return called;
+        };
+        globals[global] = v;
         s = called.state;
         i += 1;
     }
@@ -162,26 +152,14 @@ fn rate(
         spare,
     );
     let reply = begun.reply;
-    match reply {
-        Reply::Done => {}
-        Reply::Value(_) => {
-            return put_reply(out, reply);
-        }
-        Reply::Refused(_) => {
-            return put_reply(out, reply);
-        }
-    }
+    let Reply::Done = reply else {
+        return put_reply(out, reply);
+    };
     let named = intern_names(input, begun.state, globals, heap, slots, spare, name);
     let reply = named.reply;
-    match reply {
-        Reply::Done => {}
-        Reply::Value(_) => {
-            return put_reply(out, reply);
-        }
-        Reply::Refused(_) => {
-            return put_reply(out, reply);
-        }
-    }
+    let Reply::Done = reply else {
+        return put_reply(out, reply);
+    };
     let budget = head.budget as Steps;
     let ran = run::run(
         named.state,
@@ -202,7 +180,7 @@ fn rate(
 }
 
 // How many numbers the sections of one kind of tables have.
-struct Tables {
+struct TableCounts {
     tables: usize,
     entries: usize,
 }
@@ -213,13 +191,13 @@ fn gather_switches(
     firsts: &mut [u64],
     ends: &mut [u64],
     entries: &mut [u64],
-) -> Tables
+) -> TableCounts
     ensures { λ r. ⌜ (r .tables ≡ length (sectionIn Section.SwitchFirsts (now (input .entry)))) × (r .entries ≡ length (sectionIn Section.SwitchEntries (now (input .entry)))) × (now (firsts .exit) ≡ over (sectionIn Section.SwitchFirsts (now (input .entry))) (now (firsts .entry))) × (now (ends .exit) ≡ over (sectionIn Section.SwitchEnds (now (input .entry))) (now (ends .entry))) × (now (entries .exit) ≡ over (sectionIn Section.SwitchEntries (now (input .entry))) (now (entries .entry))) ⌝ }
 {
     let tables = sections::gather(input, Section::SwitchFirsts, firsts);
     sections::gather(input, Section::SwitchEnds, ends);
     let count = sections::gather(input, Section::SwitchEntries, entries);
-    Tables {
+    TableCounts {
         tables,
         entries: count,
     }
@@ -232,22 +210,28 @@ fn gather_lookups(
     ends: &mut [u64],
     entries: &mut [u64],
     defaults: &mut [u64],
-) -> Tables
+) -> TableCounts
     ensures { λ r. ⌜ (r .tables ≡ length (sectionIn Section.LookupFirsts (now (input .entry)))) × (r .entries ≡ length (sectionIn Section.LookupEntries (now (input .entry)))) × (now (firsts .exit) ≡ over (sectionIn Section.LookupFirsts (now (input .entry))) (now (firsts .entry))) × (now (ends .exit) ≡ over (sectionIn Section.LookupEnds (now (input .entry))) (now (ends .entry))) × (now (entries .exit) ≡ over (sectionIn Section.LookupEntries (now (input .entry))) (now (entries .entry))) × (now (defaults .exit) ≡ over (sectionIn Section.LookupDefaults (now (input .entry))) (now (defaults .entry))) ⌝ }
 {
     let tables = sections::gather(input, Section::LookupFirsts, firsts);
     sections::gather(input, Section::LookupEnds, ends);
     let count = sections::gather(input, Section::LookupEntries, entries);
     sections::gather(input, Section::LookupDefaults, defaults);
-    Tables {
+    TableCounts {
         tables,
         entries: count,
     }
 }
 
 // 10, of what the runner has no room for.
-fn room_for(head: Head, words: usize, globals: usize, switches: Tables, lookups: Tables) -> bool
-    ensures { λ r. ⌜ r ≡ ((leb (head .pages) 8 && (leb (head .frames) 4096 && leb (head .slots) 4096)) && ((leb words 4096 && leb globals 4096) && ((leb (switches .tables) 256 && leb (switches .entries) 4096) && (leb (lookups .tables) 256 && leb (lookups .entries) 4096)))) ⌝ }
+fn room_for(
+    head: Head,
+    words: usize,
+    globals: usize,
+    switches: TableCounts,
+    lookups: TableCounts,
+) -> bool
+    ensures { λ r. ⌜ r ≡ fits head words globals switches lookups ⌝ }
 {
     ((head.pages <= 8) & ((head.frames <= 4096) & (head.slots <= 4096)))
         & (((words <= 4096) & (globals <= 4096))
@@ -255,60 +239,67 @@ fn room_for(head: Head, words: usize, globals: usize, switches: Tables, lookups:
                 & ((lookups.tables <= 256) & (lookups.entries <= 4096))))
 }
 
-// An image gathered into the buffers, which are as long as the runner's limits, and rated.
-fn answer_image(
-    input: &[u8],
-    head: Head,
-    code: &mut [u64],
-    globals: &mut [u64],
-    switch_firsts: &mut [u64],
-    switch_ends: &mut [u64],
-    switch_entries: &mut [u64],
-    lookup_firsts: &mut [u64],
-    lookup_ends: &mut [u64],
-    lookup_entries: &mut [u64],
-    defaults: &mut [u64],
-    frames: &mut [u64],
-    heap: &mut [u8],
-    slots: &mut [u64],
-    spare: &mut [u64],
-    name: &mut [u8],
-    out: &mut [u8],
-) -> usize
-    requires { ⌜ (textOk (now input) ≡ true) × (head ≡ headOf (now input)) × (32768 ≤ length (now name)) × (longest ≤ length (now out)) × (length (now code) ≡ 4096) × (length (now globals) ≡ 4096) × (length (now «switch_firsts») ≡ 256) × (length (now «switch_ends») ≡ 256) × (length (now «switch_entries») ≡ 4096) × (length (now «lookup_firsts») ≡ 256) × (length (now «lookup_ends») ≡ 256) × (length (now «lookup_entries») ≡ 4096) × (length (now defaults) ≡ 256) × (lentOf (now frames) (now heap) (now slots) (now spare) ≡ lentOf (replicate 4096 0) (replicate 32768 0) (replicate 4096 0) (replicate 4096 0)) ⌝ }
+// An image gathered into buffers of the runner's limits, and rated.
+fn answer_image(input: &[u8], head: Head, out: &mut [u8]) -> usize
+    requires { ⌜ (textOk (now input) ≡ true) × (head ≡ headOf (now input)) × (longest ≤ length (now out)) ⌝ }
     ensures { λ r. ⌜ Says (now (out .entry)) (imageText (roomFor head (now (input .entry))) (now (input .entry)) head) (now (out .exit)) r ⌝ }
 {
-    let words = sections::gather(input, Section::Code, code);
-    let count = sections::gather(input, Section::Globals, globals);
-    let switches = gather_switches(input, switch_firsts, switch_ends, switch_entries);
-    let lookups = gather_lookups(input, lookup_firsts, lookup_ends, lookup_entries, defaults);
+    let mut code = [0u64; 4096];
+    let mut globals = [0u64; 4096];
+    let mut switch_firsts = [0u64; 256];
+    let mut switch_ends = [0u64; 256];
+    let mut switch_entries = [0u64; 4096];
+    let mut lookup_firsts = [0u64; 256];
+    let mut lookup_ends = [0u64; 256];
+    let mut lookup_entries = [0u64; 4096];
+    let mut defaults = [0u64; 256];
+    let words = sections::gather(input, Section::Code, &mut code);
+    let count = sections::gather(input, Section::Globals, &mut globals);
+    let switches = gather_switches(
+        input,
+        &mut switch_firsts,
+        &mut switch_ends,
+        &mut switch_entries,
+    );
+    let lookups = gather_lookups(
+        input,
+        &mut lookup_firsts,
+        &mut lookup_ends,
+        &mut lookup_entries,
+        &mut defaults,
+    );
     if !room_for(head, words, count, switches, lookups) {
         return report::put_refusal(out, 0, Refusal::SIZE);
     }
-    let tables = switches.tables;
-    let targets = switches.entries;
-    let maps = lookups.tables;
-    let values = lookups.entries;
+    let switch_count = switches.tables;
+    let target_count = switches.entries;
+    let lookup_count = lookups.tables;
+    let value_count = lookups.entries;
     let frame_count = head.frames as usize;
     let heap_size = head.pages as usize * PAGE_SIZE;
     let slot_count = head.slots as usize;
+    let mut frames = [0u64; 4096];
+    let mut heap = [0u8; 32768];
+    let mut slots = [0u64; 4096];
+    let mut spare = [0u64; 4096];
+    let mut name = [0u8; 32768];
     rate(
         input,
         head,
         &code[..words],
         &mut globals[..count],
-        &switch_firsts[..tables],
-        &switch_ends[..tables],
-        &switch_entries[..targets],
-        &lookup_firsts[..maps],
-        &lookup_ends[..maps],
-        &lookup_entries[..values],
-        &defaults[..maps],
+        &switch_firsts[..switch_count],
+        &switch_ends[..switch_count],
+        &switch_entries[..target_count],
+        &lookup_firsts[..lookup_count],
+        &lookup_ends[..lookup_count],
+        &lookup_entries[..value_count],
+        &defaults[..lookup_count],
         &mut frames[..frame_count],
         &mut heap[..heap_size],
         &mut slots[..slot_count],
         &mut spare[..slot_count],
-        name,
+        &mut name,
         out,
     )
 }
@@ -320,37 +311,5 @@ pub fn answer(input: &[u8], out: &mut [u8; 656]) -> usize
     let Reading::Image(head) = text::read(input) else {
         return report::put_refusal(out, 0, Refusal::TEXT);
     };
-    let mut code = [0u64; 4096];
-    let mut globals = [0u64; 4096];
-    let mut switch_firsts = [0u64; 256];
-    let mut switch_ends = [0u64; 256];
-    let mut switch_entries = [0u64; 4096];
-    let mut lookup_firsts = [0u64; 256];
-    let mut lookup_ends = [0u64; 256];
-    let mut lookup_entries = [0u64; 4096];
-    let mut defaults = [0u64; 256];
-    let mut frames = [0u64; 4096];
-    let mut heap = [0u8; 32768];
-    let mut slots = [0u64; 4096];
-    let mut spare = [0u64; 4096];
-    let mut name = [0u8; 32768];
-    answer_image(
-        input,
-        head,
-        &mut code,
-        &mut globals,
-        &mut switch_firsts,
-        &mut switch_ends,
-        &mut switch_entries,
-        &mut lookup_firsts,
-        &mut lookup_ends,
-        &mut lookup_entries,
-        &mut defaults,
-        &mut frames,
-        &mut heap,
-        &mut slots,
-        &mut spare,
-        &mut name,
-        out,
-    )
+    answer_image(input, head, out)
 }

@@ -24,7 +24,7 @@ unfoldable pub digits : ℕ → ℕ → List ℕ
 digits zero v = []
 digits (suc n) v = (v / 16 ^ n % 16 + cond (ltb (v / 16 ^ n % 16) 10) 48 87) ∷ digits n v
 
-abbrev line : ℕ → ℕ → List ℕ
+abbrev pub line : ℕ → ℕ → List ℕ
 line n v = digits n v ++ 10 ∷ []
 
 -- the document's input

@@ -1,350 +1,189 @@
 -- `image::answer_image` meets its contract. Assumes nothing.
-use mathlib.Core.Path.{_≡_, refl, sym, ap, _∙_}
+use mathlib.Core.Path.{_≡_, refl, sym, _∙_}
 use mathlib.Core.Bool.{true}
+use mathlib.Core.List.{List}
+use Prim.Native.Nat.{ℕ, _*_}
 use native.Mathlib.Omega.{arith}
-use lib.ListN.{length}
-use lib.Seq.{length-take-le}
+use lib.ListN.{length, replicate}
 use borrow.Author.Tests.{not-true, not-false}
-use Rattle.image.specs.Runner.{roomFor, imageText}
+use Rattle.gc.specs.Lent.{pageSize}
+use Rattle.text.specs.declared.Head.{Head}
+use Rattle.text.specs.declared.sections.Section.the-variants.{Code, Globals, SwitchFirsts, SwitchEnds, SwitchEntries, LookupFirsts, LookupDefaults, LookupEnds, LookupEntries}
+use Rattle.text.specs.Sections.{sectionIn}
 use Rattle.text.proofs.Tables.{switch-ends-firsts, lookup-ends-firsts, lookup-defaults-firsts}
+use Rattle.image.specs.Runner.{fits, roomFor, imageText}
 use Rattle.image.proofs.Answers.{refusal-says}
-use Rattle.image.proofs.Rooms.{Roomy, roomy, room-tested, filled, parts-are, zeros-for, lent-long, budget-small}
+use Rattle.image.proofs.Rooms.{Fits, fitting, counted, Part, section-part, zeros-part, image-of-parts, lent-of-parts, budget-small}
 use borrow.Author.Needs.{needs}
 use Rattle.image.proofs.answer_image.Statement.{statement}
 use Rattle.image.proofs.answer_image.Tie as tie
 
--- what was lent
-abbrev start-of : tie.Else1 → tie.Start
-start-of c = c .before .before .before .before .before .before .before .before .before .before .before .before .before .before .before .before .before .before .before .before .before .before .before .before .before .before .before .before .before .before .before .before .before .before .before .before .before .before .before .before .before .before .before .before .before .before .before .before .before
+-- ---- places: what was lent, and what was gathered
 
--- the test of 10, passed
-has-room : (c : tie.Else1) → roomFor (start-of c .args .head) (start-of c .args .input .now) ≡ true
-has-room c =
-    let room-for = c .before in
-    let gather-lookups = room-for .before .before .before .before .before .before .before .before .before in
-    let gather-switches = gather-lookups .before .before .before .before .before .before .before .before .before .before .before in
-    let gather2 = gather-switches .before .before .before .before .before .before in
-    let gather = gather2 .before .before .before .before in
-    sym (room-tested (start-of c .args .head) (start-of c .args .input .now) _ _ _ _ _ (gather .gather .ensures .0) (gather2 .gather2 .ensures .0) (gather-switches .gather-switches .ensures .0) (gather-switches .gather-switches .ensures .1) (gather-lookups .gather-lookups .ensures .0) (gather-lookups .gather-lookups .ensures .1) (room-for .room-for .ensures)) ∙ not-false _ (c .if1 .left)
+abbrev lookups-at : tie.After-room-for → tie.After-gather-lookups
+lookups-at c = c .before .before .before .before .before
 
-room : (c : tie.Else1) → Roomy (start-of c .args .head) (start-of c .args .input .now)
-room c = roomy _ _ (has-room c)
+abbrev switches-at : tie.After-room-for → tie.After-gather-switches
+switches-at c = c .before .before .before .before .before .before .before .before .before .before .before .before .before
+
+abbrev globals-at : tie.After-room-for → tie.After-gather2
+globals-at c = c .before .before .before .before .before .before .before .before .before .before .before .before .before .before .before .before .before .before
+
+abbrev code-at : tie.After-room-for → tie.After-gather
+code-at c = c .before .before .before .before .before .before .before .before .before .before .before .before .before .before .before .before .before .before .before .before .before
+
+abbrev start-of : tie.After-room-for → tie.Start
+start-of c = c .before .before .before .before .before .before .before .before .before .before .before .before .before .before .before .before .before .before .before .before .before .before .before .before .before
+
+-- the test of 10 is that of the text
+tested : (c : tie.After-room-for) → roomFor (start-of c .args .head) (start-of c .args .input .now) ≡ c .room-for .result
+tested c =
+    let switches = switches-at c in
+    let lookups = lookups-at c in
+    counted _ _ _ _ _ (start-of c .args .input .now) (code-at c .gather .ensures .0) (globals-at c .gather2 .ensures .0) (switches .gather-switches .ensures .0) (switches .gather-switches .ensures .1) (lookups .gather-lookups .ensures .0) (lookups .gather-lookups .ensures .1) ∙ sym (c .room-for .ensures)
+
+-- ---- past that test
+
+abbrev head : tie.Else1 → Head
+head c = start-of (c .before) .args .head
+
+abbrev text : tie.Else1 → List ℕ
+text c = start-of (c .before) .args .input .now
+
+abbrev codes : tie.Else1 → tie.After-gather
+codes c = code-at (c .before)
+
+abbrev globals : tie.Else1 → tie.After-gather2
+globals c = globals-at (c .before)
+
+abbrev switches : tie.Else1 → tie.After-gather-switches
+switches c = switches-at (c .before)
+
+abbrev lookups : tie.Else1 → tie.After-gather-lookups
+lookups c = lookups-at (c .before)
+
+room : (c : tie.Else1) → Fits (head c) (codes c .gather .result) (globals c .gather2 .result) (switches c .gather-switches .result) (lookups c .gather-lookups .result)
+room c = fitting _ _ _ _ _ (sym (c .before .room-for .ensures) ∙ not-false _ (c .if1 .left))
+
+code-part : (c : tie.Else1) → Part (sectionIn Code (text c)) (codes c .gather .last .1 .1 .0) (codes c .gather .result)
+code-part c = section-part 4096 (codes c .gather .ensures .0) (codes c .gather .ensures .1) (room c .words-fit)
+
+globals-part : (c : tie.Else1) → Part (sectionIn Globals (text c)) (globals c .gather2 .last .1 .1 .0) (globals c .gather2 .result)
+globals-part c = section-part 4096 (globals c .gather2 .ensures .0) (globals c .gather2 .ensures .1) (room c .globals-fit)
+
+switch-firsts-part : (c : tie.Else1) → Part (sectionIn SwitchFirsts (text c)) (switches c .gather-switches .last .1 .0) (switches c .gather-switches .result .tables)
+switch-firsts-part c = section-part 256 (switches c .gather-switches .ensures .0) (switches c .gather-switches .ensures .2) (room c .switches-fit)
+
+switch-ends-part : (c : tie.Else1) → Part (sectionIn SwitchEnds (text c)) (switches c .gather-switches .last .1 .1 .0) (switches c .gather-switches .result .tables)
+switch-ends-part c = section-part 256 (switches c .gather-switches .ensures .0 ∙ sym (switch-ends-firsts (text c))) (switches c .gather-switches .ensures .3) (room c .switches-fit)
+
+switch-entries-part : (c : tie.Else1) → Part (sectionIn SwitchEntries (text c)) (switches c .gather-switches .last .1 .1 .1 .0) (switches c .gather-switches .result .entries)
+switch-entries-part c = section-part 4096 (switches c .gather-switches .ensures .1) (switches c .gather-switches .ensures .4) (room c .targets-fit)
+
+lookup-firsts-part : (c : tie.Else1) → Part (sectionIn LookupFirsts (text c)) (lookups c .gather-lookups .last .1 .0) (lookups c .gather-lookups .result .tables)
+lookup-firsts-part c = section-part 256 (lookups c .gather-lookups .ensures .0) (lookups c .gather-lookups .ensures .2) (room c .lookups-fit)
+
+lookup-ends-part : (c : tie.Else1) → Part (sectionIn LookupEnds (text c)) (lookups c .gather-lookups .last .1 .1 .0) (lookups c .gather-lookups .result .tables)
+lookup-ends-part c = section-part 256 (lookups c .gather-lookups .ensures .0 ∙ sym (lookup-ends-firsts (text c))) (lookups c .gather-lookups .ensures .3) (room c .lookups-fit)
+
+lookup-entries-part : (c : tie.Else1) → Part (sectionIn LookupEntries (text c)) (lookups c .gather-lookups .last .1 .1 .1 .0) (lookups c .gather-lookups .result .entries)
+lookup-entries-part c = section-part 4096 (lookups c .gather-lookups .ensures .1) (lookups c .gather-lookups .ensures .4) (room c .values-fit)
+
+defaults-part : (c : tie.Else1) → Part (sectionIn LookupDefaults (text c)) (lookups c .gather-lookups .last .1 .1 .1 .1 .0) (lookups c .gather-lookups .result .tables)
+defaults-part c = section-part 256 (lookups c .gather-lookups .ensures .0 ∙ sym (lookup-defaults-firsts (text c))) (lookups c .gather-lookups .ensures .5) (room c .lookups-fit)
+
+frames-part : (c : tie.Else1) → Part (replicate (head c .frames) 0) (replicate 4096 0) (head c .frames)
+frames-part c = zeros-part 4096 (room c .frames)
+
+heap-part : (c : tie.Else1) → Part (replicate (head c .pages * pageSize) 0) (replicate 32768 0) (head c .pages * pageSize)
+heap-part c = zeros-part 32768 (omega (arith, room c .pages))
+
+slots-part : (c : tie.Else1) → Part (replicate (head c .slots) 0) (replicate 4096 0) (head c .slots)
+slots-part c = zeros-part 4096 (room c .slots)
+
+-- ---- needs
 
 put-refusal-requires : tie.Need-put-refusal-requires
-put-refusal-requires c κs =
-    let start = c .before .before .before .before .before .before .before .before .before .before .before .before .before .before .before .before .before .before .before .before .before .before .before .before .before .before .before .before .before .before .before .before .before .before .before .before .before .before .before .before .before .before .before .before .before .before .before .before .before .before in
-    omega (arith, start .pre .3)
-
-same-length : tie.Need-same-length
-same-length c =
-    let code = c .before .before .before .before .before .before .before .before .before .before .before .before .before .before .before .before .before .before .before .before .before .before .before .before .before .before .before .before .before .before .before .before .before .before in
-    code .code .given
+put-refusal-requires c κs = let start = start-of (c .before .before) in omega (arith, start .pre .2)
 
 returns : tie.Need-returns
 unfolding imageText
 returns c =
     let put-refusal = c .before .before in
     let if1 = put-refusal .before .before in
-    let room-for = if1 .before in
-    let gather-lookups = room-for .before .before .before .before .before .before .before .before .before in
-    let gather-switches = gather-lookups .before .before .before .before .before .before .before .before .before .before .before in
-    let gather2 = gather-switches .before .before .before .before .before .before in
-    let gather = gather2 .before .before .before .before in
-    let start = gather .before .before .before .before .before .before .before .before .before .before .before .before .before .before .before .before .before .before in
-    rw (sym (room-tested (start .args .head) (start .args .input .now) _ _ _ _ _ (gather .gather .ensures .0) (gather2 .gather2 .ensures .0) (gather-switches .gather-switches .ensures .0) (gather-switches .gather-switches .ensures .1) (gather-lookups .gather-lookups .ensures .0) (gather-lookups .gather-lookups .ensures .1) (room-for .room-for .ensures)) ∙ not-true _ (if1 .if1 .taken)) (refusal-says 10 _ _ _ (put-refusal .put-refusal .ensures .0) (put-refusal .put-refusal .ensures .1))
+    rw (tested (if1 .before) ∙ not-true _ (if1 .if1 .taken)) (refusal-says 10 _ _ _ (put-refusal .put-refusal .ensures .0) (put-refusal .put-refusal .ensures .1))
 
 mul-heap-size : tie.Need-mul-heap-size
 mul-heap-size c = omega (arith, room c .pages)
 
-slice-reshare-prefix-rate : tie.Need-slice-reshare-prefix-rate
-slice-reshare-prefix-rate c =
-    let code = c .before .before .before .before .before .before .before .before .before .before .before .before .before .before .before .before .before .before .before .before .before .before .before .before .before .before .before .before .before .before in
-    let gather = code .before in
-    omega (arith, room c .words, gather .gather .ensures .0, code .code .given, start-of c .pre .4)
-
-slice-aggregate-rate : tie.Need-slice-aggregate-rate
-slice-aggregate-rate c =
-    let if1 = c .before in
-    let code = if1 .before .before .before .before .before .before .before .before .before .before .before .before .before .before .before .before .before .before .before .before .before .before .before .before .before .before .before .before .before .before in
-    let gather = code .before in
-    sym (length-take-le _ _ (omega (arith, room if1 .words, gather .gather .ensures .0, code .code .given, start-of if1 .pre .4)))
-
-slice-relend-prefix-rate : tie.Need-slice-relend-prefix-rate
-slice-relend-prefix-rate c =
-    let if1 = c .before in
-    let globals = if1 .before .before .before .before .before .before .before .before .before .before .before .before .before .before .before .before .before .before .before .before .before .before .before .before .before .before in
-    let gather2 = globals .before in
-    omega (arith, room if1 .globals, gather2 .gather2 .ensures .0, globals .globals .given, start-of if1 .pre .5)
-
-slice-aggregate-rate-2 : tie.Need-slice-aggregate-rate-2
-slice-aggregate-rate-2 c =
-    let if1 = c .before .before in
-    let globals = if1 .before .before .before .before .before .before .before .before .before .before .before .before .before .before .before .before .before .before .before .before .before .before .before .before .before .before in
-    let gather2 = globals .before in
-    sym (length-take-le _ _ (omega (arith, room if1 .globals, gather2 .gather2 .ensures .0, globals .globals .given, start-of if1 .pre .5)))
-
-slice-reshare-prefix-rate-2 : tie.Need-slice-reshare-prefix-rate-2
-slice-reshare-prefix-rate-2 c =
-    let if1 = c .before .before in
-    let switch-firsts = if1 .before .before .before .before .before .before .before .before .before .before .before .before .before .before .before .before .before .before .before .before in
-    let gather-switches = switch-firsts .before in
-    omega (arith, room if1 .switches, gather-switches .gather-switches .ensures .0, switch-firsts .switch-firsts .given, start-of if1 .pre .6)
-
-slice-aggregate-rate-3 : tie.Need-slice-aggregate-rate-3
-slice-aggregate-rate-3 c =
-    let if1 = c .before .before .before in
-    let switch-firsts = if1 .before .before .before .before .before .before .before .before .before .before .before .before .before .before .before .before .before .before .before .before in
-    let gather-switches = switch-firsts .before in
-    sym (length-take-le _ _ (omega (arith, room if1 .switches, gather-switches .gather-switches .ensures .0, switch-firsts .switch-firsts .given, start-of if1 .pre .6)))
-
-slice-reshare-prefix-rate-3 : tie.Need-slice-reshare-prefix-rate-3
-slice-reshare-prefix-rate-3 c =
-    let if1 = c .before .before .before in
-    let switch-ends = if1 .before .before .before .before .before .before .before .before .before .before .before .before .before .before .before .before .before .before in
-    let gather-switches = switch-ends .before .before .before in
-    omega (arith, room if1 .switches, gather-switches .gather-switches .ensures .0, switch-ends .switch-ends .given, start-of if1 .pre .7)
-
-slice-aggregate-rate-4 : tie.Need-slice-aggregate-rate-4
-slice-aggregate-rate-4 c =
-    let if1 = c .before .before .before .before in
-    let switch-ends = if1 .before .before .before .before .before .before .before .before .before .before .before .before .before .before .before .before .before .before in
-    let gather-switches = switch-ends .before .before .before in
-    sym (length-take-le _ _ (omega (arith, room if1 .switches, gather-switches .gather-switches .ensures .0, switch-ends .switch-ends .given, start-of if1 .pre .7)))
-
-slice-reshare-prefix-rate-4 : tie.Need-slice-reshare-prefix-rate-4
-slice-reshare-prefix-rate-4 c =
-    let if1 = c .before .before .before .before in
-    let switch-entries = if1 .before .before .before .before .before .before .before .before .before .before .before .before .before .before .before .before in
-    let gather-switches = switch-entries .before .before .before .before .before in
-    omega (arith, room if1 .targets, gather-switches .gather-switches .ensures .1, switch-entries .switch-entries .given, start-of if1 .pre .8)
-
-slice-aggregate-rate-5 : tie.Need-slice-aggregate-rate-5
-slice-aggregate-rate-5 c =
-    let if1 = c .before .before .before .before .before in
-    let switch-entries = if1 .before .before .before .before .before .before .before .before .before .before .before .before .before .before .before .before in
-    let gather-switches = switch-entries .before .before .before .before .before in
-    sym (length-take-le _ _ (omega (arith, room if1 .targets, gather-switches .gather-switches .ensures .1, switch-entries .switch-entries .given, start-of if1 .pre .8)))
-
-slice-reshare-prefix-rate-5 : tie.Need-slice-reshare-prefix-rate-5
-slice-reshare-prefix-rate-5 c =
-    let if1 = c .before .before .before .before .before in
-    let lookup-firsts = if1 .before .before .before .before .before .before .before .before .before in
-    let gather-lookups = lookup-firsts .before in
-    omega (arith, room if1 .lookups, gather-lookups .gather-lookups .ensures .0, lookup-firsts .lookup-firsts .given, start-of if1 .pre .9)
-
-slice-aggregate-rate-6 : tie.Need-slice-aggregate-rate-6
-slice-aggregate-rate-6 c =
-    let if1 = c .before .before .before .before .before .before in
-    let lookup-firsts = if1 .before .before .before .before .before .before .before .before .before in
-    let gather-lookups = lookup-firsts .before in
-    sym (length-take-le _ _ (omega (arith, room if1 .lookups, gather-lookups .gather-lookups .ensures .0, lookup-firsts .lookup-firsts .given, start-of if1 .pre .9)))
-
-slice-reshare-prefix-rate-6 : tie.Need-slice-reshare-prefix-rate-6
-slice-reshare-prefix-rate-6 c =
-    let if1 = c .before .before .before .before .before .before in
-    let lookup-ends = if1 .before .before .before .before .before .before .before in
-    let gather-lookups = lookup-ends .before .before .before in
-    omega (arith, room if1 .lookups, gather-lookups .gather-lookups .ensures .0, lookup-ends .lookup-ends .given, start-of if1 .pre .10)
-
-slice-aggregate-rate-7 : tie.Need-slice-aggregate-rate-7
-slice-aggregate-rate-7 c =
-    let if1 = c .before .before .before .before .before .before .before in
-    let lookup-ends = if1 .before .before .before .before .before .before .before in
-    let gather-lookups = lookup-ends .before .before .before in
-    sym (length-take-le _ _ (omega (arith, room if1 .lookups, gather-lookups .gather-lookups .ensures .0, lookup-ends .lookup-ends .given, start-of if1 .pre .10)))
-
-slice-reshare-prefix-rate-7 : tie.Need-slice-reshare-prefix-rate-7
-slice-reshare-prefix-rate-7 c =
-    let if1 = c .before .before .before .before .before .before .before in
-    let lookup-entries = if1 .before .before .before .before .before in
-    let gather-lookups = lookup-entries .before .before .before .before .before in
-    omega (arith, room if1 .values, gather-lookups .gather-lookups .ensures .1, lookup-entries .lookup-entries .given, start-of if1 .pre .11)
-
-slice-aggregate-rate-8 : tie.Need-slice-aggregate-rate-8
-slice-aggregate-rate-8 c =
-    let if1 = c .before .before .before .before .before .before .before .before in
-    let lookup-entries = if1 .before .before .before .before .before in
-    let gather-lookups = lookup-entries .before .before .before .before .before in
-    sym (length-take-le _ _ (omega (arith, room if1 .values, gather-lookups .gather-lookups .ensures .1, lookup-entries .lookup-entries .given, start-of if1 .pre .11)))
-
-slice-reshare-prefix-rate-8 : tie.Need-slice-reshare-prefix-rate-8
-slice-reshare-prefix-rate-8 c =
-    let if1 = c .before .before .before .before .before .before .before .before in
-    let defaults = if1 .before .before .before in
-    let gather-lookups = defaults .before .before .before .before .before .before .before in
-    omega (arith, room if1 .lookups, gather-lookups .gather-lookups .ensures .0, defaults .defaults .given, start-of if1 .pre .12)
-
-slice-aggregate-rate-9 : tie.Need-slice-aggregate-rate-9
-slice-aggregate-rate-9 c =
-    let if1 = c .before .before .before .before .before .before .before .before .before in
-    let defaults = if1 .before .before .before in
-    let gather-lookups = defaults .before .before .before .before .before .before .before in
-    sym (length-take-le _ _ (omega (arith, room if1 .lookups, gather-lookups .gather-lookups .ensures .0, defaults .defaults .given, start-of if1 .pre .12)))
-
-slice-relend-prefix-rate-2 : tie.Need-slice-relend-prefix-rate-2
-slice-relend-prefix-rate-2 c =
-    let if1 = c .before .before .before .before .before .before .before .before .before in
-    omega (arith, room if1 .frames, lent-long (start-of if1 .pre .13) .0)
-
-slice-aggregate-rate-10 : tie.Need-slice-aggregate-rate-10
-slice-aggregate-rate-10 c =
-    let if1 = c .before .before .before .before .before .before .before .before .before .before in
-    sym (length-take-le _ _ (omega (arith, room if1 .frames, lent-long (start-of if1 .pre .13) .0)))
-
-slice-relend-prefix-rate-3 : tie.Need-slice-relend-prefix-rate-3
-slice-relend-prefix-rate-3 c =
-    let if1 = c .before .before .before .before .before .before .before .before .before .before in
-    omega (arith, room if1 .pages, lent-long (start-of if1 .pre .13) .1)
-
-slice-aggregate-rate-11 : tie.Need-slice-aggregate-rate-11
-slice-aggregate-rate-11 c =
-    let if1 = c .before .before .before .before .before .before .before .before .before .before .before in
-    sym (length-take-le _ _ (omega (arith, room if1 .pages, lent-long (start-of if1 .pre .13) .1)))
-
-slice-relend-prefix-rate-4 : tie.Need-slice-relend-prefix-rate-4
-slice-relend-prefix-rate-4 c =
-    let if1 = c .before .before .before .before .before .before .before .before .before .before .before in
-    omega (arith, room if1 .slots, lent-long (start-of if1 .pre .13) .2)
-
-slice-aggregate-rate-12 : tie.Need-slice-aggregate-rate-12
-slice-aggregate-rate-12 c =
-    let if1 = c .before .before .before .before .before .before .before .before .before .before .before .before in
-    sym (length-take-le _ _ (omega (arith, room if1 .slots, lent-long (start-of if1 .pre .13) .2)))
-
-slice-relend-prefix-rate-5 : tie.Need-slice-relend-prefix-rate-5
-slice-relend-prefix-rate-5 c =
-    let if1 = c .before .before .before .before .before .before .before .before .before .before .before .before in
-    omega (arith, room if1 .slots, lent-long (start-of if1 .pre .13) .3)
-
-slice-aggregate-rate-13 : tie.Need-slice-aggregate-rate-13
-slice-aggregate-rate-13 c =
-    let if1 = c .before .before .before .before .before .before .before .before .before .before .before .before .before in
-    sym (length-take-le _ _ (omega (arith, room if1 .slots, lent-long (start-of if1 .pre .13) .3)))
-
 rate-requires : tie.Need-rate-requires
 rate-requires c κs =
-    let if1 = c .before .before .before .before .before .before .before .before .before .before .before .before .before .before .before in
-    let gather-lookups = if1 .before .before .before .before .before .before .before .before .before .before in
-    let gather-switches = gather-lookups .before .before .before .before .before .before .before .before .before .before .before in
-    let gather2 = gather-switches .before .before .before .before .before .before in
-    let gather = gather2 .before .before .before .before in
-    (start-of if1 .pre .0, start-of if1 .pre .2, start-of if1 .pre .3, rw (start-of if1 .pre .1) (budget-small _), parts-are _ _ _ _ _ _ _ _ _ _ _ _ _ _ _ _ _ _ _ _ _ _ _ _ _ (filled _ _ _ _ (gather .gather .ensures .0) (gather .gather .ensures .1) (omega (arith, room if1 .words, gather .gather .ensures .0, start-of if1 .pre .4))) (filled _ _ _ _ (gather2 .gather2 .ensures .0) (gather2 .gather2 .ensures .1) (omega (arith, room if1 .globals, gather2 .gather2 .ensures .0, start-of if1 .pre .5))) (filled _ _ _ _ (gather-switches .gather-switches .ensures .0) (gather-switches .gather-switches .ensures .2) (omega (arith, room if1 .switches, gather-switches .gather-switches .ensures .0, start-of if1 .pre .6))) (filled _ _ _ _ (gather-switches .gather-switches .ensures .0 ∙ sym (switch-ends-firsts _)) (gather-switches .gather-switches .ensures .3) (omega (arith, room if1 .switches, gather-switches .gather-switches .ensures .0, start-of if1 .pre .7))) (filled _ _ _ _ (gather-switches .gather-switches .ensures .1) (gather-switches .gather-switches .ensures .4) (omega (arith, room if1 .targets, gather-switches .gather-switches .ensures .1, start-of if1 .pre .8))) (filled _ _ _ _ (gather-lookups .gather-lookups .ensures .0) (gather-lookups .gather-lookups .ensures .2) (omega (arith, room if1 .lookups, gather-lookups .gather-lookups .ensures .0, start-of if1 .pre .9))) (filled _ _ _ _ (gather-lookups .gather-lookups .ensures .0 ∙ sym (lookup-ends-firsts _)) (gather-lookups .gather-lookups .ensures .3) (omega (arith, room if1 .lookups, gather-lookups .gather-lookups .ensures .0, start-of if1 .pre .10))) (filled _ _ _ _ (gather-lookups .gather-lookups .ensures .1) (gather-lookups .gather-lookups .ensures .4) (omega (arith, room if1 .values, gather-lookups .gather-lookups .ensures .1, start-of if1 .pre .11))) (filled _ _ _ _ (gather-lookups .gather-lookups .ensures .0 ∙ sym (lookup-defaults-firsts _)) (gather-lookups .gather-lookups .ensures .5) (omega (arith, room if1 .lookups, gather-lookups .gather-lookups .ensures .0, start-of if1 .pre .12))), zeros-for _ _ (room if1) _ _ _ _ (start-of if1 .pre .13))
-
-same-length-11 : tie.Need-same-length-11
-same-length-11 c =
-    let code = c .before .before .before .before .before .before .before .before .before .before .before .before .before .before .before .before .before .before .before .before .before .before .before .before .before .before .before .before .before .before .before .before .before .before .before .before .before .before .before .before .before .before .before .before .before .before .before .before .before .before .before .before .before .before .before .before .before .before .before .before in
-    code .code .given
-
-same-length-12 : tie.Need-same-length-12
-same-length-12 c =
-    let globals2 = c .before .before .before .before .before .before .before .before .before .before .before .before .before in
-    let globals = globals2 .before .before .before .before .before .before .before .before .before .before .before .before .before .before .before .before .before .before .before .before .before .before .before .before .before .before .before .before .before .before .before .before .before .before .before .before .before .before .before .before .before .before .before in
-    globals2 .globals2 .given .1 ∙ globals .globals .given
-
-same-length-13 : tie.Need-same-length-13
-same-length-13 c =
-    let switch-firsts = c .before .before .before .before .before .before .before .before .before .before .before .before .before .before .before .before .before .before .before .before .before .before .before .before .before .before .before .before .before .before .before .before .before .before .before .before .before .before .before .before .before .before .before .before .before .before .before .before .before .before in
-    switch-firsts .switch-firsts .given
-
-same-length-14 : tie.Need-same-length-14
-same-length-14 c =
-    let switch-ends = c .before .before .before .before .before .before .before .before .before .before .before .before .before .before .before .before .before .before .before .before .before .before .before .before .before .before .before .before .before .before .before .before .before .before .before .before .before .before .before .before .before .before .before .before .before .before .before .before in
-    switch-ends .switch-ends .given
-
-same-length-15 : tie.Need-same-length-15
-same-length-15 c =
-    let switch-entries = c .before .before .before .before .before .before .before .before .before .before .before .before .before .before .before .before .before .before .before .before .before .before .before .before .before .before .before .before .before .before .before .before .before .before .before .before .before .before .before .before .before .before .before .before .before .before in
-    switch-entries .switch-entries .given
-
-same-length-16 : tie.Need-same-length-16
-same-length-16 c =
-    let lookup-firsts = c .before .before .before .before .before .before .before .before .before .before .before .before .before .before .before .before .before .before .before .before .before .before .before .before .before .before .before .before .before .before .before .before .before .before .before .before .before .before .before in
-    lookup-firsts .lookup-firsts .given
-
-same-length-17 : tie.Need-same-length-17
-same-length-17 c =
-    let lookup-ends = c .before .before .before .before .before .before .before .before .before .before .before .before .before .before .before .before .before .before .before .before .before .before .before .before .before .before .before .before .before .before .before .before .before .before .before .before .before in
-    lookup-ends .lookup-ends .given
-
-same-length-18 : tie.Need-same-length-18
-same-length-18 c =
-    let lookup-entries = c .before .before .before .before .before .before .before .before .before .before .before .before .before .before .before .before .before .before .before .before .before .before .before .before .before .before .before .before .before .before .before .before .before .before .before in
-    lookup-entries .lookup-entries .given
-
-same-length-19 : tie.Need-same-length-19
-same-length-19 c =
-    let defaults = c .before .before .before .before .before .before .before .before .before .before .before .before .before .before .before .before .before .before .before .before .before .before .before .before .before .before .before .before .before .before .before .before .before in
-    defaults .defaults .given
+    let p = c .before .before .before .before .before .before .before .before .before .before .before .before .before .before .before in
+    let start = start-of (p .before) in (
+      start .pre .0,
+      search needs,
+      start .pre .2,
+      rw (start .pre .1) (budget-small _),
+      image-of-parts (text p) (code-part p) (globals-part p) (switch-firsts-part p) (switch-ends-part p) (switch-entries-part p) (lookup-firsts-part p) (lookup-ends-part p) (lookup-entries-part p) (defaults-part p),
+      lent-of-parts (head p) (frames-part p) (heap-part p) (slots-part p) (slots-part p),
+    )
 
 returns-2 : tie.Need-returns-2
 unfolding imageText
 returns-2 c =
-    let rate = c .before .before .before .before .before .before .before .before .before .before .before .before .before .before in
-    let if1 = rate .before .before .before .before .before .before .before .before .before .before .before .before .before .before .before .before in
-    rw (has-room if1) (rate .rate .ensures)
+    let rate = c .before .before .before .before .before .before .before .before in
+    let p = rate .before .before .before .before .before .before .before .before .before .before .before .before .before .before .before .before in
+    rw (tested (p .before) ∙ not-false _ (p .if1 .left)) (rate .rate .ensures)
 
 pub answer-image-spec : {M : Type 1} → statement M
 answer-image-spec =
     tie.close
     (tie.spec
+    (λ c. search needs)
     (λ c κs. search needs)
+    (λ c. search needs)
     (λ c κs. search needs)
+    (λ c. search needs)
+    (λ c. search needs)
+    (λ c. search needs)
     (λ c κs. search needs)
+    (λ c. search needs)
+    (λ c. search needs)
+    (λ c. search needs)
+    (λ c. search needs)
     (λ c κs. search needs)
     (λ c κs. search needs)
     put-refusal-requires
-    same-length
-    (λ c. search needs)
-    (λ c. search needs)
-    (λ c. search needs)
-    (λ c. search needs)
-    (λ c. search needs)
-    (λ c. search needs)
-    (λ c. search needs)
-    (λ c. search needs)
     (λ c. search needs)
     returns
     mul-heap-size
-    slice-reshare-prefix-rate
-    slice-aggregate-rate
-    slice-relend-prefix-rate
-    slice-aggregate-rate-2
-    slice-reshare-prefix-rate-2
-    slice-aggregate-rate-3
-    slice-reshare-prefix-rate-3
-    slice-aggregate-rate-4
-    slice-reshare-prefix-rate-4
-    slice-aggregate-rate-5
-    slice-reshare-prefix-rate-5
-    slice-aggregate-rate-6
-    slice-reshare-prefix-rate-6
-    slice-aggregate-rate-7
-    slice-reshare-prefix-rate-7
-    slice-aggregate-rate-8
-    slice-reshare-prefix-rate-8
-    slice-aggregate-rate-9
-    slice-relend-prefix-rate-2
-    slice-aggregate-rate-10
-    slice-relend-prefix-rate-3
-    slice-aggregate-rate-11
-    slice-relend-prefix-rate-4
-    slice-aggregate-rate-12
-    slice-relend-prefix-rate-5
-    slice-aggregate-rate-13
+    (λ c. code-part c .inside)
+    (λ c. code-part (c .before) .long)
+    (λ c. globals-part (c .before) .inside)
+    (λ c. globals-part (c .before .before) .long)
+    (λ c. switch-firsts-part (c .before .before) .inside)
+    (λ c. switch-firsts-part (c .before .before .before) .long)
+    (λ c. switch-ends-part (c .before .before .before) .inside)
+    (λ c. switch-ends-part (c .before .before .before .before) .long)
+    (λ c. switch-entries-part (c .before .before .before .before) .inside)
+    (λ c. switch-entries-part (c .before .before .before .before .before) .long)
+    (λ c. lookup-firsts-part (c .before .before .before .before .before) .inside)
+    (λ c. lookup-firsts-part (c .before .before .before .before .before .before) .long)
+    (λ c. lookup-ends-part (c .before .before .before .before .before .before) .inside)
+    (λ c. lookup-ends-part (c .before .before .before .before .before .before .before) .long)
+    (λ c. lookup-entries-part (c .before .before .before .before .before .before .before) .inside)
+    (λ c. lookup-entries-part (c .before .before .before .before .before .before .before .before) .long)
+    (λ c. defaults-part (c .before .before .before .before .before .before .before .before) .inside)
+    (λ c. defaults-part (c .before .before .before .before .before .before .before .before .before) .long)
+    (λ c. frames-part (c .before .before .before .before .before .before .before .before .before) .inside)
+    (λ c. frames-part (c .before .before .before .before .before .before .before .before .before .before) .long)
+    (λ c. heap-part (c .before .before .before .before .before .before .before .before .before .before) .inside)
+    (λ c. heap-part (c .before .before .before .before .before .before .before .before .before .before .before) .long)
+    (λ c. slots-part (c .before .before .before .before .before .before .before .before .before .before .before) .inside)
+    (λ c. slots-part (c .before .before .before .before .before .before .before .before .before .before .before .before) .long)
+    (λ c. slots-part (c .before .before .before .before .before .before .before .before .before .before .before .before) .inside)
+    (λ c. slots-part (c .before .before .before .before .before .before .before .before .before .before .before .before .before) .long)
+    (λ c. search needs)
     rate-requires
-    same-length-11
-    same-length-12
-    same-length-13
-    same-length-14
-    same-length-15
-    same-length-16
-    same-length-17
-    same-length-18
-    same-length-19
-    (λ c. search needs)
-    (λ c. search needs)
-    (λ c. search needs)
-    (λ c. search needs)
-    (λ c. search needs)
     (λ c. search needs)
     returns-2)

@@ -1,14 +1,16 @@
 -- `image::intern_names` meets its contract. Assumes nothing.
 use mathlib.Core.Path.{_≡_, refl, sym, _∙_}
 use mathlib.Core.List.{List}
-use Prim.Native.Nat.{ℕ, _-_}
-use lib.ListN.{length}
+use Prim.Native.Nat.{ℕ, _-_, _≤_, _<_}
+use lib.ListN.{length, take}
 use lib.Seq.{length-take-le}
 use native.Mathlib.Omega.{arith}
+use Rattle.text.specs.declared.names.Named.{Named}
 use Rattle.text.specs.Lines.{linesOf}
-use Rattle.text.specs.Names.{namesOf}
+use Rattle.text.specs.Names.{namesOf, nameOf, answerOf, bytesOf}
 use Rattle.vm.specs.Told.{lentOf, machineOf, saidOf, told}
-use Rattle.image.proofs.Entries.{Entering, entering-first, entering-next, entered-all, entered-some, bytes-there, bytes-back, global-there, more-left, few-names, done-says, refused-says}
+use Rattle.image.proofs.Answers.{not-value}
+use Rattle.image.proofs.Entries.{Entering, entering-first, entering-next, entered-all, entered-some, bytes-there, bytes-back, global-there, more-left, few-names}
 use borrow.Author.Needs.{needs}
 use Rattle.image.proofs.intern_names.Statement.{statement}
 use Rattle.image.proofs.intern_names.Tie as tie
@@ -19,183 +21,99 @@ Inv-loop input globals₀ heap₀ slots₀ spare₀ name₀ s₀ i₀ globals he
 abbrev μ-loop : tie.MeasureT-loop
 μ-loop input globals₀ heap₀ slots₀ spare₀ name₀ s₀ i₀ globals heap slots spare name s i = length (namesOf 0 (linesOf input)) - i
 
+-- ---- the turn of a name
+
+abbrev turn-of : tie.After-global Inv-loop μ-loop → tie.At-loop Inv-loop μ-loop
+turn-of c = c .before .before .before .before .before .before
+
+abbrev start-of : tie.At-loop Inv-loop μ-loop → tie.Start Inv-loop μ-loop
+start-of c = c .before .before .before .before .before .before .before
+
+module _ (c : tie.After-global Inv-loop μ-loop) where
+  abbrev turn : tie.At-loop Inv-loop μ-loop
+  turn = turn-of c
+
+  abbrev lent : tie.After-name Inv-loop μ-loop
+  lent = c .before .before .before .before
+
+  abbrev global : ℕ
+  global = c .global .given .0 .0
+
+  abbrev len : ℕ
+  len = c .global .given .0 .1 .0
+
+  found : answerOf (nameOf (turn .loop .i) (start-of turn .args .input .now)) ≡ Named.At global len
+  found = sym (lent .name .ensures .0) ∙ c .global .given .1
+
+  -- its bytes in the buffer
+  abbrev bytes : List ℕ
+  bytes = lent .name .last .1 .1 .0
+
+  there : len ≤ length bytes
+  there = bytes-there (turn .loop .inv .0) found (start-of turn .pre .0) _ (omega (arith, turn .loop .inv .4, start-of turn .pre .2)) (lent .name .ensures .1)
+
+  back : take len bytes ≡ bytesOf (nameOf (turn .loop .i) (start-of turn .args .input .now))
+  back = bytes-back (turn .loop .inv .0) found (start-of turn .pre .0) _ (omega (arith, turn .loop .inv .4, start-of turn .pre .2)) (lent .name .ensures .1)
+
+  inside : global < length (turn .loop .globals)
+  inside = global-there (turn .loop .inv .0) found (start-of turn .pre .1)
+
+abbrev interned-before : tie.After-reply Inv-loop μ-loop → tie.After-intern Inv-loop μ-loop
+interned-before c = c .before .before .before .before .before .before .before .before
+
+abbrev found-before : tie.After-intern Inv-loop μ-loop → tie.After-global Inv-loop μ-loop
+found-before c = c .before .before .before .before .before .before
+
+-- ---- needs
+
 loop-holds : tie.Need-loop-holds Inv-loop μ-loop
 loop-holds c = (entering-first _ _ _, refl, refl, refl, refl)
-
-same-length : tie.Need-same-length Inv-loop μ-loop
-same-length c =
-    let loop = c .before .before .before .before .before .before in
-    loop .loop .inv .0 .long
-
-same-length-2 : tie.Need-same-length-2 Inv-loop μ-loop
-same-length-2 c =
-    let loop = c .before .before .before .before .before .before in
-    loop .loop .inv .1
-
-same-length-3 : tie.Need-same-length-3 Inv-loop μ-loop
-same-length-3 c =
-    let loop = c .before .before .before .before .before .before in
-    loop .loop .inv .2
-
-same-length-4 : tie.Need-same-length-4 Inv-loop μ-loop
-same-length-4 c =
-    let loop = c .before .before .before .before .before .before in
-    loop .loop .inv .3
-
-same-length-5 : tie.Need-same-length-5 Inv-loop μ-loop
-same-length-5 c =
-    let name2 = c .before .before .before in
-    let loop = name2 .before .before .before in
-    name2 .name2 .given ∙ loop .loop .inv .4
 
 returns : tie.Need-returns Inv-loop μ-loop
 unfolding saidOf
 returns c =
     let name = c .before .before .before .before in
-    let loop = name .before .before in
-    λ frames. entered-all _ _ _ _ _ _ (loop .loop .inv .0) (sym (name .name .ensures .0) ∙ c .enum-told .given .1) frames
+    let turn = name .before .before in
+    entered-all (turn .loop .inv .0) (sym (name .name .ensures .0) ∙ c .enum-told .given .1)
 
 slice-reshare-prefix-intern : tie.Need-slice-reshare-prefix-intern Inv-loop μ-loop
-slice-reshare-prefix-intern c =
-    let global = c .before in
-    let name = global .before .before .before .before in
-    let loop = name .before .before in
-    let start = loop .before .before .before .before .before .before .before in
-    bytes-there _ _ _ _ _ _ (loop .loop .inv .0) _ _ (sym (name .name .ensures .0) ∙ global .global .given .1) (start .pre .0) _ _ (omega (arith, loop .loop .inv .4, start .pre .2)) (name .name .ensures .1)
+slice-reshare-prefix-intern c = there (c .before)
 
 slice-aggregate-intern : tie.Need-slice-aggregate-intern Inv-loop μ-loop
-slice-aggregate-intern c =
-    let global = c .before .before in
-    let name = global .before .before .before .before in
-    let loop = name .before .before in
-    let start = loop .before .before .before .before .before .before .before in
-    sym (length-take-le _ _ (bytes-there _ _ _ _ _ _ (loop .loop .inv .0) _ _ (sym (name .name .ensures .0) ∙ global .global .given .1) (start .pre .0) _ _ (omega (arith, loop .loop .inv .4, start .pre .2)) (name .name .ensures .1)))
-
-mul-globals : tie.Need-mul-globals Inv-loop μ-loop
-mul-globals c =
-    let global = c .before .before .before .before .before .before .before .before .before .before .before .before .before .before .before in
-    let name = global .before .before .before .before in
-    let loop = name .before .before in
-    let start = loop .before .before .before .before .before .before .before in
-    let there = global-there _ _ _ _ _ _ (loop .loop .inv .0) _ _ (sym (name .name .ensures .0) ∙ global .global .given .1) (start .pre .1) in search needs
-
-slice-write-globals : tie.Need-slice-write-globals Inv-loop μ-loop
-slice-write-globals c =
-    let global = c .before .before .before .before .before .before .before .before .before .before .before .before .before .before .before in
-    let name = global .before .before .before .before in
-    let loop = name .before .before in
-    let start = loop .before .before .before .before .before .before .before in
-    global-there _ _ _ _ _ _ (loop .loop .inv .0) _ _ (sym (name .name .ensures .0) ∙ global .global .given .1) (start .pre .1)
-
-same-length-6 : tie.Need-same-length-6 Inv-loop μ-loop
-same-length-6 c =
-    let loop = c .before .before .before .before .before .before .before .before .before .before .before .before .before .before .before .before .before .before .before .before in
-    loop .loop .inv .0 .long
-
-same-length-7 : tie.Need-same-length-7 Inv-loop μ-loop
-same-length-7 c =
-    let heap = c .before .before .before .before .before .before .before in
-    let loop = heap .before .before .before .before .before .before .before .before .before .before .before .before .before in
-    heap .heap .given ∙ loop .loop .inv .1
-
-same-length-8 : tie.Need-same-length-8 Inv-loop μ-loop
-same-length-8 c =
-    let slots = c .before .before .before .before .before in
-    let loop = slots .before .before .before .before .before .before .before .before .before .before .before .before .before .before .before in
-    slots .slots .given ∙ loop .loop .inv .2
-
-same-length-9 : tie.Need-same-length-9 Inv-loop μ-loop
-same-length-9 c =
-    let spare = c .before .before .before in
-    let loop = spare .before .before .before .before .before .before .before .before .before .before .before .before .before .before .before .before .before in
-    spare .spare .given ∙ loop .loop .inv .3
-
-same-length-10 : tie.Need-same-length-10 Inv-loop μ-loop
-same-length-10 c =
-    let name2 = c .before .before .before .before .before .before .before .before .before .before .before .before .before .before .before .before .before in
-    let loop = name2 .before .before .before in
-    name2 .name2 .given ∙ loop .loop .inv .4
+slice-aggregate-intern c = sym (length-take-le _ _ (there (c .before .before)))
 
 returns-2 : tie.Need-returns-2 Inv-loop μ-loop
 returns-2 c =
-    let intern = c .before .before .before .before .before .before .before .before in
-    let global = intern .before .before .before .before .before .before in
-    let name = global .before .before .before .before in
-    let loop = name .before .before in
-    let start = loop .before .before .before .before .before .before .before in
-    let at = sym (name .name .ensures .0) ∙ global .global .given .1 in
-    let back = bytes-back _ _ _ _ _ _ (loop .loop .inv .0) _ _ at (start .pre .0) _ _ (omega (arith, loop .loop .inv .4, start .pre .2)) (name .name .ensures .1) in
-    λ frames. entered-some _ _ _ _ _ _ (loop .loop .inv .0) _ _ at (λ (f : List ℕ). told (intern .intern .result) (lentOf f _ _ _)) (λ f. rw back at (intern .intern .ensures f)) (λ f. done-says _ (c .enum-told2 .given .1)) frames
+    let intern = c .before .before .before .before .before .before .before in
+    let name = found-before intern in
+    entered-some (turn-of name .loop .inv .0) (found name) (back name) (λ (f : List ℕ). told (intern .intern .result) (lentOf f _ _ _)) (intern .intern .ensures) (λ f. not-value _ (c .match2 .keys2))
 
-same-length-11 : tie.Need-same-length-11 Inv-loop μ-loop
-same-length-11 c =
-    let loop = c .before .before .before .before .before .before .before .before .before .before .before .before .before .before .before .before .before .before .before .before in
-    loop .loop .inv .0 .long
+mul-globals : tie.Need-mul-globals Inv-loop μ-loop
+mul-globals c =
+    let name = found-before (interned-before (c .before)) in
+    let turn = turn-of name in
+    let start = start-of turn in
+    record { fits = omega (arith, inside name) }
 
-same-length-12 : tie.Need-same-length-12 Inv-loop μ-loop
-same-length-12 c =
-    let heap = c .before .before .before .before .before .before .before in
-    let loop = heap .before .before .before .before .before .before .before .before .before .before .before .before .before in
-    heap .heap .given ∙ loop .loop .inv .1
-
-same-length-13 : tie.Need-same-length-13 Inv-loop μ-loop
-same-length-13 c =
-    let slots = c .before .before .before .before .before in
-    let loop = slots .before .before .before .before .before .before .before .before .before .before .before .before .before .before .before in
-    slots .slots .given ∙ loop .loop .inv .2
-
-same-length-14 : tie.Need-same-length-14 Inv-loop μ-loop
-same-length-14 c =
-    let spare = c .before .before .before in
-    let loop = spare .before .before .before .before .before .before .before .before .before .before .before .before .before .before .before .before .before in
-    spare .spare .given ∙ loop .loop .inv .3
-
-same-length-15 : tie.Need-same-length-15 Inv-loop μ-loop
-same-length-15 c =
-    let name2 = c .before .before .before .before .before .before .before .before .before .before .before .before .before .before .before .before .before in
-    let loop = name2 .before .before .before in
-    name2 .name2 .given ∙ loop .loop .inv .4
-
-returns-3 : tie.Need-returns-3 Inv-loop μ-loop
-returns-3 c =
-    let intern = c .before .before .before .before .before .before .before .before in
-    let global = intern .before .before .before .before .before .before in
-    let name = global .before .before .before .before in
-    let loop = name .before .before in
-    let start = loop .before .before .before .before .before .before .before in
-    let at = sym (name .name .ensures .0) ∙ global .global .given .1 in
-    let back = bytes-back _ _ _ _ _ _ (loop .loop .inv .0) _ _ at (start .pre .0) _ _ (omega (arith, loop .loop .inv .4, start .pre .2)) (name .name .ensures .1) in
-    λ frames. entered-some _ _ _ _ _ _ (loop .loop .inv .0) _ _ at (λ (f : List ℕ). told (intern .intern .result) (lentOf f _ _ _)) (λ f. rw back at (intern .intern .ensures f)) (λ f. refused-says _ _ (c .enum-told3 .given .1)) frames
+slice-write-globals : tie.Need-slice-write-globals Inv-loop μ-loop
+slice-write-globals c = inside (found-before (interned-before (c .before)))
 
 add-i : tie.Need-add-i Inv-loop μ-loop
 add-i c =
-    let loop = c .before .before .before .before .before .before .before .before .before .before .before .before .before .before .before .before .before .before .before .before .before .before in
-    let start = loop .before .before .before .before .before .before .before in
-    omega (arith, few-names _ _ _ _ _ _ (loop .loop .inv .0), start .pre .0)
+    let turn = turn-of (found-before (interned-before (c .before .before))) in
+    omega (arith, few-names (turn .loop .inv .0), start-of turn .pre .0)
 
 loop-less : tie.Need-loop-less Inv-loop μ-loop
 loop-less c =
-    let global = c .before .before .before .before .before .before .before .before .before .before .before .before .before .before .before .before in
-    let name = global .before .before .before .before in
-    let loop = name .before .before in
-    omega (arith, more-left _ _ _ _ _ _ (loop .loop .inv .0) _ _ (sym (name .name .ensures .0) ∙ global .global .given .1))
+    let name = found-before (interned-before (c .before .before)) in
+    omega (arith, more-left (turn-of name .loop .inv .0) (found name))
 
 loop-again : tie.Need-loop-again Inv-loop μ-loop
-unfolding saidOf
 loop-again c =
     let reply = c .before .before in
-    let spare = reply .before .before .before in
-    let slots = spare .before .before in
-    let heap = slots .before .before in
-    let intern = heap .before in
-    let global = intern .before .before .before .before .before .before in
-    let name2 = global .before .before .before in
-    let name = name2 .before in
-    let loop = name .before .before in
-    let start = loop .before .before .before .before .before .before .before in
-    let at = sym (name .name .ensures .0) ∙ global .global .given .1 in
-    let back = bytes-back _ _ _ _ _ _ (loop .loop .inv .0) _ _ at (start .pre .0) _ _ (omega (arith, loop .loop .inv .4, start .pre .2)) (name .name .ensures .1) in
-    (entering-next _ _ _ _ _ _ (loop .loop .inv .0) _ _ at _ _ (λ f. rw (back, reply .reply .given .1) at (intern .intern .ensures f)), heap .heap .given ∙ loop .loop .inv .1, slots .slots .given ∙ loop .loop .inv .2, spare .spare .given ∙ loop .loop .inv .3, name2 .name2 .given ∙ loop .loop .inv .4)
+    let intern = interned-before reply in
+    let name = found-before intern in
+    (entering-next (turn-of name .loop .inv .0) (found name) (back name) (reply .reply .given .1) _ (intern .intern .ensures), cc, cc, cc, cc)
 
 pub intern-names-spec : {M : Type 1} → statement M
 intern-names-spec =
@@ -207,32 +125,24 @@ intern-names-spec =
     (λ c κs. search needs)
     (λ c. search needs)
     (λ c. search needs)
-    same-length
-    same-length-2
-    same-length-3
-    same-length-4
-    same-length-5
+    (λ c. search needs)
+    (λ c. search needs)
+    (λ c. search needs)
+    (λ c. search needs)
+    (λ c. cc)
     returns
     slice-reshare-prefix-intern
     slice-aggregate-intern
     (λ c κs. search needs)
     (λ c. search needs)
+    (λ c. search needs)
+    (λ c. cc)
+    (λ c. cc)
+    (λ c. cc)
+    (λ c. cc)
+    returns-2
     mul-globals
     slice-write-globals
-    (λ c. search needs)
-    same-length-6
-    same-length-7
-    same-length-8
-    same-length-9
-    same-length-10
-    returns-2
-    (λ c. search needs)
-    same-length-11
-    same-length-12
-    same-length-13
-    same-length-14
-    same-length-15
-    returns-3
     add-i
     loop-less
     loop-again)
