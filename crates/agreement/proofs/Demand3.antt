@@ -1,17 +1,16 @@
 -- Demand 3, in both its forms: machines that differ in what is lent agree until the smaller runs out. Assumes nothing.
-use mathlib.Core.Path.{_≡_, refl, sym, ap, ap₂, _∙_, subst}
-use Prim.Native.Nat.{ℕ, zero, suc, _+_, _≤_}
-use mathlib.Core.Bool.{Bool, true, false, true≢false, _||_}
+use mathlib.Core.Path.{_≡_, refl, sym, ap, ap₂, _∙_}
+use Prim.Native.Nat.{ℕ, _+_, _≤_}
+use mathlib.Core.Bool.{true, false, true≢false}
 use mathlib.Core.Option.{Option, none, some}
 use mathlib.Core.List.{List, [], _∷_, _++_}
 use native.Mathlib.Omega.{arith}
-use lib.ListN.{length, set, length-set}
-use lib.Dec.{ltb, eqb}
+use lib.ListN.{length}
 use Rattle.gc.specs.Lent.{numbersOf}
 use Rattle.vm.specs.declared.State.{State}
-use Rattle.vm.specs.Core.{Sizes, Core, Land, used, short, spent, _⊑_, setPc, setLand}
+use Rattle.vm.specs.Core.{Sizes, Core, used, short, spent, _⊑_, setPc, setLand}
 use Rattle.program.specs.Image.{Image, failing}
-use Rattle.vm.specs.Machine.{Lent, Machine, sizes, view, Light, Host, Call, run, light, host, Answer, ended, value, done, refused, ranOut, Called, Acted, runs, hosted, granted, act, tried, perform, begun, start}
+use Rattle.vm.specs.Machine.{Machine, sizes, view, Host, Call, run, light, host, Answer, ended, value, done, refused, ranOut, Called, runs, hosted, granted, act, tried}
 use Rattle.vm.proofs.Fits.{short-spent, short-up}
 use Rattle.vm.proofs.Runs.{runs-good, CutOn, runs-up}
 use Rattle.vm.proofs.Holds.{Holds}

@@ -1,16 +1,14 @@
 -- The premises of demand 3 can be met: two machines of different sizes, started on one image and base, their buffers not zero. By
 -- computation. Assumes nothing.
 use mathlib.Core.Path.{_≡_, refl}
-use mathlib.Core.Bool.{_&&_, _||_}
 use mathlib.Core.List.{List, []}
 use Prim.Native.Nat.{ℕ, _*_}
-use native.Mathlib.Omega.{arith}
 use lib.Dec.{lit≤}
-use lib.ListN.{length, replicate}
+use lib.ListN.{replicate}
 use Rattle.string.specs.Sound as Table
 use Rattle.vm.specs.Core.{_⊑_}
 use Rattle.program.specs.Image.{Image, Tables, rising, tablesOk, imageOk, endsInHalt, below, wordTests, counts, imageTests, failing}
-use Rattle.vm.specs.Machine.{Lent, Machine, sizes, framesOk, heapOk, slotsOk, begun, begin, starts, start}
+use Rattle.vm.specs.Machine.{Lent, sizes, framesOk, heapOk, slotsOk, begun, begin, starts, start}
 use Rattle.agreement.specs.Demand3.{Pair, Agree, Demand3}
 use Rattle.agreement.proofs.Demand3.{demand3}
 

@@ -25,7 +25,7 @@ use report::Summary;
 use run::Ran;
 use text::Head;
 use text::Reading;
-use text::names;
+use text::names as text_names;
 use text::names::Named;
 use text::sections;
 use text::sections::Section;
@@ -83,7 +83,7 @@ fn intern_names(
     let mut s = state;
     let mut i: usize = 0;
     loop {
-        let Named::At { global, len } = names::name(input, i, name) else {
+        let Named::At { global, len } = text_names::name(input, i, name) else {
             return Called {
                 reply: Reply::Done,
                 state: s,

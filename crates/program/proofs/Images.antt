@@ -1,19 +1,19 @@
 -- Passing over the lists of an image: what is left from here on is as good as the whole. Assumes nothing.
 use mathlib.Core.Path.{_≡_, refl, sym, ap, _∙_}
-use Prim.Native.Nat.{ℕ, zero, suc, _+_, _-_, _%_, _≤_, _<_}
+use Prim.Native.Nat.{ℕ, _+_, _-_, _%_, _≤_, _<_}
 use mathlib.Core.Bool.{Bool, true, false, _&&_}
-use mathlib.Core.Option.{Option, none, some}
+use mathlib.Core.Option.{Option}
 use mathlib.Core.List.{List, [], _∷_}
 use native.Mathlib.Omega.{arith}
 use native.Mathlib.Numerals.{add-one}
 use lib.ListN.{length, getD, drop, drop-of-length-le}
 use lib.Seq.{drop-cons}
-use lib.Dec.{leb, ltb, eqb}
+use lib.Dec.{eqb}
 use borrow.Author.Tests.{le-ltb, lt-ltb, le-leb, lt-leb}
 use Rattle.op.specs.declared.Checked.{Checked}
 use Rattle.op.specs.declared.Counts.{Counts}
 use Rattle.op.specs.Reach.{checkOf}
-use Rattle.program.specs.Image.{Image, Test, counts, rising, imageOk, endsInHalt, below, wordTest, wordTests, imageTests, failing, verdict}
+use Rattle.program.specs.Image.{Image, counts, rising, imageOk, endsInHalt, below, wordTest, wordTests, imageTests, failing, verdict}
 
 -- a pass that has come to i
 module _ (A : Type 0) (f : List ℕ → A) (xs : List ℕ) (i : ℕ) (whole : A) (g : f (drop i xs) ≡ whole) where

@@ -17,7 +17,7 @@ use Rattle.op.specs.declared.Op.the-variants.{IAdd, IAddI, ISub, ISubI, IMul, I
 use Rattle.op.specs.declared.Decoded.{Decoded}
 use Rattle.program.specs.declared.Effect.{Effect}
 use Rattle.program.specs.declared.Effect.the-variants as effect
-use Rattle.program.specs.Image.{Image, Tables, entriesOf}
+use Rattle.program.specs.Image.{Image, entriesOf}
 
 -- the end of a read outside the code, the globals or the tables. No table of ends has it: no run that is not refused comes to it
 abbrev pub unlisted : ℕ

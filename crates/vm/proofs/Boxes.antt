@@ -1,11 +1,11 @@
 -- An Option written into a block. Assumes nothing.
 use mathlib.Core.Path.{_≡_, refl, sym, ap, ap₂, _∙_}
 use Prim.Native.Nat.{ℕ, _+_, _-_, _^_, _≤_, _<_}
-use mathlib.Core.Bool.{Bool, true, false}
-use mathlib.Core.List.{List, [], _∷_, _++_}
+use mathlib.Core.Bool.{true}
+use mathlib.Core.List.{List, _++_}
 use native.Mathlib.Omega.{arith}
-use lib.ListN.{length, take, replicate, length-append, length-replicate}
-use lib.Dec.{leb, lit<}
+use lib.ListN.{length, length-append}
+use lib.Dec.{leb}
 use borrow.Author.Tests.{leb-true, le-leb}
 use Rattle.memory.specs.Bytes.{bytesOf}
 use Rattle.memory.specs.Lists.{over, write}
@@ -13,10 +13,10 @@ use Rattle.memory.proofs.Over.{length-over, length-write, over-write, write-app
 use Rattle.memory.proofs.Bytes.{length-bytesOf}
 use Rattle.gc.specs.declared.Gc.{Gc}
 use Rattle.gc.specs.declared.Alloc.{Alloc}
-use Rattle.gc.specs.Pages.{Pages, Block, growOf, gapOf, holds, block, pushed, fitted, allocated}
-use Rattle.gc.specs.Lent.{pageSize, pagesOf, numbersOf, Outcome, outcome, fits, granted, grantedIn, allocOf, Sound}
-use Rattle.vm.specs.Core.{Land, setPages, setBytes}
-use Rattle.vm.specs.Names.{Given, filled, boxed}
+use Rattle.gc.specs.Pages.{Block, growOf, gapOf, holds, block, pushed, fitted, allocated}
+use Rattle.gc.specs.Lent.{pageSize, pagesOf, numbersOf, outcome, fits, granted, grantedIn, allocOf, Sound}
+use Rattle.vm.specs.Core.{setPages, setBytes}
+use Rattle.vm.specs.Names.{filled, boxed}
 use Rattle.vm.specs.Machine.{firstPage, firstLand}
 use Rattle.vm.specs.Told.{blockOf, landIn}
 use Rattle.vm.proofs.Starting.{first-length}

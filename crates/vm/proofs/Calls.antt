@@ -1,15 +1,12 @@
 -- A call on a machine that holds a core leaves one that holds a core. Assumes nothing.
-use mathlib.Core.Path.{_≡_, refl, sym, ap, ap₂, _∙_, subst}
-use Prim.Native.Nat.{ℕ, zero, suc, _+_, _≤_}
-use mathlib.Core.Bool.{Bool, true, false, true≢false, _||_}
-use mathlib.Core.Option.{Option, none, some}
-use mathlib.Core.List.{List, [], _∷_, _++_}
-use native.Mathlib.Omega.{arith}
-use lib.ListN.{length, set, length-set}
-use lib.Dec.{ltb, eqb}
+use mathlib.Core.Path.{_≡_, refl, ap, subst}
+use Prim.Native.Nat.{ℕ, _≤_}
+use mathlib.Core.Option.{none}
+use mathlib.Core.List.{List, [], _∷_}
+use lib.ListN.{length, set}
 use Rattle.vm.specs.Core.{Sizes, Core, Land, used, short, setFrames, setLand, setPages}
 use Rattle.program.specs.Image.{Image, failing}
-use Rattle.vm.specs.Machine.{Machine, landOf, view, withPages, withNames, Light, reset, putPc, putReg, Host, allocate, option, intern, internSmall, Call, run, light, host, Acted, runs, hosted, unset, lightly, laid, runLeaves, hostLeaves, granted, hostCall, runCall, act, tests, tried, perform}
+use Rattle.vm.specs.Machine.{Machine, landOf, view, withPages, withNames, Light, reset, putPc, putReg, Host, allocate, option, intern, internSmall, Call, run, host, Acted, runs, hosted, unset, lightly, laid, runLeaves, hostLeaves, granted, hostCall, runCall, act, tried, perform}
 use Rattle.vm.proofs.Fits.{fits-of}
 use Rattle.vm.proofs.Kept.{Kept, Good, allocates-kept, optional-kept, interned-base}
 use Rattle.vm.proofs.Holds.{Holds, holds-pages, holds-names, holds-frames, holds-regs}

@@ -1,25 +1,24 @@
 -- Demand 1, of a run that is not refused: it ends with a listed number within its budget, 5 only when the budget is completed, and reads
 -- nothing outside the code, the globals and the tables (`unlisted`, which such a read would end with, is no listed number). Assumes nothing.
 use mathlib.Core.Path.{_≡_, refl, sym, ap, subst, _∙_}
-use Prim.Native.Nat.{ℕ, zero, suc, _+_, _-_, _%_, _^_, _≤_, _<_, min, zero-le}
-use mathlib.Core.Bool.{Bool, true, false, _&&_, _||_, true≢false}
+use Prim.Native.Nat.{ℕ, zero, suc, _+_, _-_, _%_, _^_, _≤_, _<_}
+use mathlib.Core.Bool.{Bool, true, false, _&&_, true≢false}
 use mathlib.Core.Option.{Option, none, some}
 use mathlib.Core.List.{List, [], _∷_, _++_}
-use mathlib.Core.Logic.{_⊎_, inl, inr, ⊎-elim}
+use mathlib.Core.Logic.{_⊎_, ⊎-elim}
 use native.Mathlib.Omega.{arith}
 use native.Mathlib.Nat.{not-suc-le-zero, le-of-suc-le-suc, mod-le}
 use lib.ListN.{length, getD, take, drop, set, length-set}
-use lib.Dec.{leb, ltb, eqb, lit<}
+use lib.Dec.{leb, ltb, lit<}
 use borrow.Author.Tests.{leb-true, le-leb, ltb-true, eqb-true, ne-eqb}
 use Rattle.anomaly.specs.Table.{isAnomaly, isRefusal}
 use Rattle.anomaly.proofs.Numbers.{either, both, in-range}
-use Rattle.gc.specs.Lent.{pagesOf}
 use Rattle.op.specs.declared.Checked.{Checked}
 use Rattle.op.specs.declared.Counts.{Counts}
 use Rattle.op.specs.Reach.{checkOf}
-use Rattle.vm.specs.Core.{Core, Sizes, used, short, _⊑_, setFrames}
+use Rattle.vm.specs.Core.{Core, Sizes, used, short, setFrames}
 use Rattle.program.specs.Image.{Image, Test, test, imageOk, endsInHalt, below, wordTest, wordTests, counts, imageTests, failing}
-use Rattle.vm.specs.Run.{Step, next, halted, stop, step, Ran, after, go, root, entered}
+use Rattle.vm.specs.Run.{Step, next, halted, stop, step, after, go, root, entered}
 use Rattle.vm.specs.Names.{Given}
 use Rattle.vm.specs.Machine.{Lent, Machine, sizes, landOf, view, Call, run, light, host, Host, Answer, ended, value, done, refused, ran, idle, runs, runCall, act, hosted, granted, hostCall, framesOk, heapOk, slotsOk, returnsOk, framesBelong, pagesBelong, tests, tried, perform, Started, declined, begun, starts, start}
 use Rattle.vm.proofs.Fits.{fits-of, view-fits}

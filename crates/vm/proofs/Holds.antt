@@ -1,22 +1,18 @@
 -- A machine that holds a core in lent buffers of given sizes, and keeps doing so as parts of it are laid back. Assumes nothing.
-use mathlib.Core.Path.{_≡_, refl, sym, ap, _∙_}
+use mathlib.Core.Path.{_≡_, refl, ap, _∙_}
 use Prim.Native.Nat.{ℕ, _≤_}
-use mathlib.Core.Bool.{Bool, true, false, _&&_}
+use mathlib.Core.Bool.{Bool, true, false}
 use mathlib.Core.Option.{none}
 use mathlib.Core.List.{List, [], _∷_}
-use native.Mathlib.Omega.{arith}
-use lib.ListN.{length, take}
-use lib.Seq.{length-take-le}
+use lib.ListN.{length}
 use Rattle.memory.specs.Lists.{over}
 use Rattle.memory.proofs.Over.{length-over, take-over}
-use Rattle.string.specs.declared.table.StrTable.{StrTable}
 use Rattle.string.specs.Grow.{spared}
-use Rattle.gc.specs.declared.Gc.{Gc}
 use Rattle.gc.specs.Pages.{Pages}
-use Rattle.gc.specs.Lent.{pagesOf, numbersOf}
+use Rattle.gc.specs.Lent.{numbersOf}
 use Rattle.gc.proofs.Blocks.{laid-back}
-use Rattle.vm.specs.Core.{Core, Land, Sizes, used, short, setFrames, setLand, setPages}
-use Rattle.vm.specs.Machine.{Lent, Machine, sizes, landOf, view, withPages, withNames, traced, withFrames, withRegs, framesOk, heapOk, slotsOk}
+use Rattle.vm.specs.Core.{Core, Sizes, used, short, setFrames, setLand, setPages}
+use Rattle.vm.specs.Machine.{Machine, sizes, landOf, view, withPages, withNames, traced, withFrames, withRegs, framesOk, heapOk, slotsOk}
 use Rattle.vm.specs.Core.{_⊑_}
 use Rattle.vm.proofs.Fits.{fits-of, none-of}
 

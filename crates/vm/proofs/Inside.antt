@@ -1,7 +1,7 @@
 -- An instruction of a checked image goes on inside the code, reads only what is there, and stops with a listed number. Assumes nothing.
-use mathlib.Core.Path.{_≡_, refl, sym, ap, _∙_}
-use Prim.Native.Nat.{ℕ, zero, suc, _+_, _-_, _%_, _^_, _≤_, _<_}
-use mathlib.Core.Bool.{Bool, true, false, cond, not, _&&_, Bool·beq}
+use mathlib.Core.Path.{_≡_, refl, ap, _∙_}
+use Prim.Native.Nat.{ℕ, zero, suc, _+_, _-_, _%_, _^_, _<_}
+use mathlib.Core.Bool.{Bool, true, false, cond, _&&_}
 use mathlib.Core.Option.{Option, none, some}
 use mathlib.Core.List.{List, [], _∷_, _++_}
 use native.Mathlib.Omega.{arith}
@@ -12,7 +12,6 @@ use borrow.Author.Tests.{ltb-true, lt-ltb, le-leb, eqb-true, eqb-false}
 use Rattle.anomaly.specs.Table.{isAnomaly}
 use Rattle.value.specs.declared.int.Divided.{Divided}
 use Rattle.value.specs.declared.int.Divided.the-variants.{Exact, ByZero, Overflow}
-use Rattle.value.specs.Int.{quotientOf, remainderOf}
 use Rattle.value.specs.Cast.{truth}
 use Rattle.op.specs.declared.Op.{Op}
 use Rattle.op.specs.declared.Op.the-variants.{IAdd, IAddI, ISub, ISubI, IMul, IMulI, IDiv, IDivI, IMod, IModI, IAnd, IAndI, ILt, IGt, IEq, IEqI, IGtI, ILtI, DAdd, DSub, DMul, DDiv, DLt, DGt, BEq, SEq, Mov, LoadI, LoadG, Jmp, JmpT, JmpF, JmpEqI, JmpNeI, JmpSEq, JmpSNe, Switch, Lookup, Tail, Call, CastToInt, CastToDouble, CastToBool, Alloc, Store, Load, AddrOf, Ret, Assert, Halt, Nop}
@@ -25,12 +24,11 @@ use Rattle.op.specs.Operands.{okOp, Within}
 use Rattle.op.proofs.Sound.{fine}
 use Rattle.program.specs.declared.Effect.{Effect}
 use Rattle.program.specs.declared.Effect.the-variants as effect
-use Rattle.vm.specs.Core.{Core, Land, Sizes, used, lacking, short, _⊑_, setReg, setPc, setFrames, setLand}
+use Rattle.vm.specs.Core.{Core, Sizes, used, lacking, short, _⊑_, setReg, setPc, setFrames, setLand}
 use Rattle.program.specs.Image.{Image, startOf, entriesOf, counts, below}
 use Rattle.program.specs.Effect.{divided, jumpIf, within, switched, effectOf, wordEffect}
 use Rattle.vm.specs.Run.{Step, next, halted, stop, provided, forward, returned, took, apply, fetched, unless, limited, step}
 use Rattle.vm.specs.Loaded.{Checks, Returns, Writable}
-use Rattle.vm.proofs.Fits.{fits-of}
 use Rattle.vm.proofs.Kept.{Kept, KeptStep, apply-kept}
 
 -- ---- effects

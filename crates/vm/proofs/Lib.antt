@@ -1,6 +1,7 @@
 -- The laws of the definition: what is lent is looked at in one place.
 pub mod Fits
 pub mod Upward
+pub mod Every
 pub mod Kept
 pub mod Runs
 pub mod Holds
@@ -16,3 +17,4 @@ pub mod Blocks
 pub mod Boxes
 pub mod Loading
 pub mod Grows
+pub mod Registers

@@ -1,9 +1,9 @@
 -- A start by its tests in turn, and what it leaves. Assumes nothing.
-use mathlib.Core.Path.{_≡_, refl, sym, ap, _∙_}
+use mathlib.Core.Path.{_≡_, refl, ap}
 use Prim.Native.Nat.{ℕ, _+_, _^_, _≤_}
-use mathlib.Core.Bool.{Bool, true, false, _&&_}
+use mathlib.Core.Bool.{Bool, true, _&&_}
 use mathlib.Core.Option.{Option, none, some}
-use mathlib.Core.List.{List, [], _∷_}
+use mathlib.Core.List.{List}
 use native.Mathlib.Omega.{arith}
 use lib.ListN.{length, set}
 use Rattle.memory.specs.Lists.{over}
@@ -15,7 +15,7 @@ use Rattle.gc.specs.Lent.{pageSize, Outcome, outcome, numbersOf}
 use Rattle.op.specs.declared.Checked.{Checked}
 use Rattle.vm.specs.declared.State.{State}
 use Rattle.program.specs.Image.{Image, test, imageOk, imageTests, failing, verdict}
-use Rattle.vm.specs.Machine.{Lent, Machine, Called, done, refused, traced, withPages, withFrames, unset, framesOk, heapOk, slotsOk, firstLand, blank, begin, starts, start}
+use Rattle.vm.specs.Machine.{Lent, Machine, done, refused, traced, withPages, withFrames, unset, framesOk, heapOk, slotsOk, firstLand, blank, begin, starts, start}
 use Rattle.vm.specs.Told.{lentOf, machineOf, startedOn}
 use Rattle.program.proofs.Tests.{failing-cons}
 use Rattle.vm.proofs.Refusals.{failing-numbered, image-alone}

@@ -1,12 +1,11 @@
 -- The tests of a call on a machine that holds a core are tests of the core alone. Assumes nothing.
-use mathlib.Core.Path.{_≡_, refl, sym, ap, ap₂, subst, _∙_}
-use Prim.Native.Nat.{ℕ, zero, suc, _-_, _%_, _≤_}
-use mathlib.Core.Bool.{Bool, true, false, not, _&&_, _||_, true≢false}
-use mathlib.Core.Option.{Option, none, some}
+use mathlib.Core.Path.{_≡_, refl, ap, ap₂, subst}
+use Prim.Native.Nat.{ℕ, _-_, _≤_}
+use mathlib.Core.Bool.{Bool, true, false, _&&_, _||_, true≢false}
+use mathlib.Core.Option.{some}
 use mathlib.Core.List.{List, [], _∷_, _++_, append-nil}
 use native.Mathlib.Omega.{arith}
-use lib.ListN.{length, take, drop}
-use lib.Seq.{take-length, length-take-le}
+use lib.ListN.{length, take}
 use lib.Dec.{leb, ltb, eqb, lit≤}
 use borrow.Author.Tests.{le-leb, ne-eqb}
 use Rattle.string.specs.declared.table.StrTable.{StrTable}
@@ -20,9 +19,9 @@ use Rattle.op.specs.Layout.{isAlignment}
 use Rattle.op.specs.Reach.{checkOf}
 use Rattle.op.proofs.Sound.{check-refuses}
 use Rattle.vm.specs.declared.State.{State}
-use Rattle.vm.specs.Core.{Core, Land, Sizes, used, short}
-use Rattle.program.specs.Image.{Image, Test, test, wordTest, wordTests, counts, imageOk, endsInHalt, below, imageTests, failing}
-use Rattle.vm.specs.Machine.{Lent, Machine, sizes, landOf, view, Light, reset, putPc, putReg, Host, allocate, option, intern, internSmall, Call, run, light, host, framesOk, heapOk, slotsOk, returnsOk, framesBelong, pagesBelong, namesBelong, smallOk, tests}
+use Rattle.vm.specs.Core.{Core, Land, Sizes, used}
+use Rattle.program.specs.Image.{Image, Test, test, wordTest, wordTests, counts, imageTests, failing}
+use Rattle.vm.specs.Machine.{Lent, Machine, sizes, landOf, view, reset, putPc, putReg, allocate, option, intern, internSmall, Call, run, light, host, heapOk, slotsOk, returnsOk, framesBelong, pagesBelong, namesBelong, smallOk, tests}
 use Rattle.vm.specs.Core.{_⊑_, spent}
 use Rattle.vm.proofs.Fits.{fits-of}
 use Rattle.vm.proofs.Holds.{Holds}

@@ -3,22 +3,20 @@ use mathlib.Core.Path.{_≡_, refl, sym, ap, _∙_}
 use Prim.Native.Nat.{ℕ, _+_, _≤_, _<_}
 use mathlib.Core.Bool.{Bool, true, false, _&&_}
 use mathlib.Core.Option.{Option, none, some}
-use mathlib.Core.List.{List, [], _∷_, _++_}
-use native.Mathlib.Omega.{arith}
-use lib.ListN.{length, drop, set}
-use lib.Dec.{leb, ltb, eqb}
+use mathlib.Core.List.{List, [], _∷_}
+use lib.ListN.{length, set}
+use lib.Dec.{leb, ltb}
 use borrow.Author.Tests.{lt-ltb, le-ltb, le-leb}
 use Rattle.memory.specs.Lists.{over}
 use Rattle.memory.proofs.Over.{over-take}
-use Rattle.anomaly.proofs.Numbers.{both}
-use Rattle.gc.specs.Pages.{Pages, Block, allocated}
+use Rattle.gc.specs.Pages.{Pages, allocated}
 use Rattle.gc.specs.Lent.{Outcome, pageSize, pagesOf}
 use Rattle.gc.specs.Lent as Heap
 use Rattle.gc.proofs.Blocks.{pushed-is}
 use Rattle.gc.proofs.Soundness as Soundness
 use Rattle.op.specs.Layout.{isAlignment}
 use Rattle.vm.specs.declared.State.{State}
-use Rattle.program.specs.Image.{test, failing}
+use Rattle.program.specs.Image.{failing}
 use Rattle.vm.specs.Core.{used, lacking, short, setLand, setPages, setBytes}
 use Rattle.vm.specs.Names.{Given, took, allocates, filled, boxed, optional}
 use Rattle.vm.specs.Machine.{Lent, Machine, sizes, landOf, view, Called, value, done, refused, light, reset, putPc, putReg, host, Host, allocate, option, unset, traced, withPages, withFrames, withRegs, lightly, hosted, hostLeaves, granted, hostCall, act, framesOk, heapOk, pagesBelong, tests, tried, perform}

@@ -1,15 +1,13 @@
 -- A run on a core: it keeps the names, stays within what is lent, and goes the same way on a larger machine. Assumes nothing.
-use mathlib.Core.Path.{_≡_, refl, sym, ap, ap₂, _∙_, subst}
-use Prim.Native.Nat.{ℕ, zero, suc, _+_, _≤_}
+use mathlib.Core.Path.{_≡_, refl, sym}
+use Prim.Native.Nat.{ℕ, zero, suc, _+_}
 use mathlib.Core.Bool.{Bool, true, false, true≢false, _||_}
-use mathlib.Core.Option.{Option, none, some}
-use mathlib.Core.List.{List, [], _∷_, _++_}
-use native.Mathlib.Omega.{arith}
-use lib.ListN.{length, set, length-set}
+use mathlib.Core.Option.{none}
+use lib.ListN.{length-set}
 use lib.Dec.{ltb, eqb}
 use Rattle.vm.specs.Core.{Sizes, Core, used, short, spent, _⊑_, setPc, setFrames}
 use Rattle.program.specs.Image.{Image}
-use Rattle.vm.specs.Run.{Ran, go, root, entered, stored}
+use Rattle.vm.specs.Run.{go, root, entered, stored}
 use Rattle.vm.specs.Machine.{Answer, ended, value, done, refused, ranOut, Acted, ran, idle, runs}
 use Rattle.vm.proofs.Upward.{cutOff, up}
 use Rattle.vm.proofs.Kept.{kept, Good, go-good}

@@ -1,20 +1,18 @@
 -- A start leaves a machine that holds the same core, whatever was lent. Assumes nothing.
-use mathlib.Core.Path.{_≡_, refl, sym, ap, ap₂, _∙_}
-use Prim.Native.Nat.{ℕ, _+_, _*_, _%_, _^_, _≤_, zero-le}
-use mathlib.Core.Bool.{Bool, true, false, _&&_}
+use mathlib.Core.Path.{_≡_, refl}
+use Prim.Native.Nat.{ℕ, _≤_, zero-le}
+use mathlib.Core.Bool.{true, _&&_}
 use mathlib.Core.Option.{Option, none, some}
-use mathlib.Core.List.{List, [], _∷_, _++_}
-use lib.ListN.{length, take, replicate}
-use lib.Dec.{leb, eqb}
-use borrow.Author.Tests.{leb-true}
+use mathlib.Core.List.{[], _∷_}
+use lib.ListN.{length, replicate}
 use Rattle.memory.proofs.Over.{length-write}
 use Rattle.anomaly.proofs.Numbers.{both}
-use Rattle.gc.specs.Pages.{Pages, growOf, gapOf, holds, block, pushed, fitted, allocated}
+use Rattle.gc.specs.Pages.{gapOf, holds, block, fitted, allocated}
 use Rattle.gc.specs.Lent.{pageSize, pagesOf, numbersOf}
-use Rattle.vm.specs.Core.{Core, Land, Sizes, used, short, lacking, setFrames, setLand, setPages, setBytes}
-use Rattle.program.specs.Image.{Image, Test, test, imageOk, imageTests, failing}
+use Rattle.vm.specs.Core.{Core, used, setFrames, setLand, setPages, setBytes}
+use Rattle.program.specs.Image.{Image, test, imageOk, imageTests}
 use Rattle.vm.specs.Names.{boxed, filled}
-use Rattle.vm.specs.Machine.{Lent, Machine, sizes, landOf, view, Call, run, light, host, Answer, withPages, withFrames, framesOk, heapOk, slotsOk, perform, unset, firstPage, firstLand, blank, begin, starts, start, begun, declined}
+use Rattle.vm.specs.Machine.{Lent, Machine, sizes, landOf, view, framesOk, heapOk, slotsOk, unset, firstPage, firstLand, blank, begin, starts, start, begun}
 use Rattle.vm.proofs.Fits.{none-of}
 use Rattle.vm.proofs.Kept.{boxed-kept}
 use Rattle.vm.proofs.Holds.{Holds, holds-pages, holds-frames}

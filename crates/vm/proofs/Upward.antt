@@ -1,6 +1,6 @@
 -- A run of the smaller against runs of the larger. What an instruction does is never looked at (`apply` and `fetched` stay shut): only
 -- that what is lent is looked at through `short` alone. Assumes nothing.
-use mathlib.Core.Path.{_≡_, refl, sym}
+use mathlib.Core.Path.{_≡_, refl}
 use Prim.Native.Nat.{ℕ, zero, suc, _+_}
 use mathlib.Core.Bool.{true, false}
 use mathlib.Core.Logic.{_⊎_, inl, inr}
