@@ -1,4 +1,4 @@
 -- The laws of the image runner.
 pub mod Answers
-pub mod Entries
+pub mod Interning
 pub mod Rooms

@@ -18,7 +18,7 @@ use Rattle.anomaly.specs.declared.Refusal.{Refusal}
 use Rattle.text.specs.declared.Head.{Head}
 use Rattle.text.specs.declared.Reading.{Reading}
 use Rattle.text.specs.declared.sections.Section.the-variants.{Code, Globals, SwitchFirsts, SwitchEnds, SwitchEntries, LookupFirsts, LookupDefaults, LookupEnds, LookupEntries}
-use Rattle.text.specs.Digits.{digitOf, readOn, field}
+use Rattle.text.specs.Digits.{valueOfDigit, readOn, field}
 use Rattle.text.specs.Lines.{payloadOf, upTo}
 use Rattle.text.specs.Text.{textOk, headIn, headOf, readOf}
 use Rattle.text.specs.Sections.{sectionIn}
@@ -27,40 +27,6 @@ use Rattle.vm.specs.Told.{lentOf}
 use Rattle.image.specs.declared.TableCounts.{TableCounts}
 use Rattle.image.specs.Runner.{imageIn, lentFor, fits, roomFor}
 use Rattle.image.proofs.Answers.{take-zeros}
-
--- ---- the budget has 8 digits
-
-read-small : (p : List ℕ) (w j : ℕ) → w < 2 ^ j → readOn w p < 2 ^ (j + 4 * length p)
-unfolding readOn
-read-small [] w j h = let k : j + 4 * 0 ≡ j = omega arith in rw k h
-read-small (c ∷ p) w j h =
-    let d : digitOf c % 16 < 16 = mod-lt (digitOf c) (omega arith) in
-    let wider : 2 ^ (j + 4) ≡ 2 ^ j * 16 = pow-add 2 j 4 in
-    let k : j + 4 + 4 * length p ≡ j + 4 * suc (length p) = omega arith in
-    rw (← k) (read-small p (w * 16 + digitOf c % 16) (j + 4) (omega arith))
-
-digits-small : (n k : ℕ) → n ≤ k → 2 ^ (0 + 4 * n) ≤ 2 ^ (4 * k)
-digits-small n k h = by (eqb n k) refl
-  where
-    by : (t : Bool) → eqb n k ≡ t → 2 ^ (0 + 4 * n) ≤ 2 ^ (4 * k)
-    by true e = let z : 0 + 4 * n ≡ 4 * k = omega (arith, eqb-true n k e) in rw z (omega arith)
-    by false e = let z : 0 + 4 * n < 4 * k = omega (arith, eqb-false n k e) in let q = pow-lt z in omega arith
-
-field-small : (i n : ℕ) (p : List ℕ) → field i n p < 2 ^ (4 * n)
-field-small i n p =
-    let few = take-fits n (drop i p) in
-    let a = read-small (part i n p) 0 0 (omega arith) in
-    let b = digits-small (length (part i n p)) n few in
-    omega arith
-  where
-    take-fits : (n : ℕ) (l : List ℕ) → length (take n l) ≤ n
-    take-fits zero l = omega arith
-    take-fits (suc n) [] = omega arith
-    take-fits (suc n) (x ∷ l) = let h = take-fits n l in omega arith
-
-pub budget-small : (s : List ℕ) → headOf s .budget < 2 ^ 32
-unfolding headOf headIn
-budget-small s = field-small 28 8 (payloadOf (take (upTo s) s))
 
 -- ---- the test of 10
 

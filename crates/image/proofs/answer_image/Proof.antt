@@ -10,10 +10,11 @@ use Rattle.gc.specs.Lent.{pageSize}
 use Rattle.text.specs.declared.Head.{Head}
 use Rattle.text.specs.declared.sections.Section.the-variants.{Code, Globals, SwitchFirsts, SwitchEnds, SwitchEntries, LookupFirsts, LookupDefaults, LookupEnds, LookupEntries}
 use Rattle.text.specs.Sections.{sectionIn}
+use Rattle.text.proofs.Numbers.{budget-small}
 use Rattle.text.proofs.Tables.{switch-ends-firsts, lookup-ends-firsts, lookup-defaults-firsts}
 use Rattle.image.specs.Runner.{fits, roomFor, imageText}
 use Rattle.image.proofs.Answers.{refusal-says}
-use Rattle.image.proofs.Rooms.{Fits, fitting, counted, Part, section-part, zeros-part, image-of-parts, lent-of-parts, budget-small}
+use Rattle.image.proofs.Rooms.{Fits, fitting, counted, Part, section-part, zeros-part, image-of-parts, lent-of-parts}
 use borrow.Author.Needs.{needs}
 use Rattle.image.proofs.answer_image.Statement.{statement}
 use Rattle.image.proofs.answer_image.Tie as tie
