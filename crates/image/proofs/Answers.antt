@@ -1,39 +1,30 @@
 -- What the calls of a rating come to in the runner's text. Assumes nothing.
-use mathlib.Core.Path.{_≡_, refl, sym, ap, _∙_}
-use Prim.Native.Nat.{ℕ, zero, suc, _+_, _*_, _≤_, _<_, _^_}
-use mathlib.Core.Bool.{Bool, true, false, _&&_}
+use mathlib.Core.Path.{_≡_, refl, ap, _∙_}
+use Prim.Native.Nat.{ℕ, _+_, _≤_}
 use mathlib.Core.List.{List, [], _∷_}
 use native.Mathlib.Omega.{arith}
 use native.Mathlib.Nat.{zero-add}
-use lib.ListN.{length, take, set, replicate, length-replicate}
-use lib.Dec.{leb}
+use lib.ListN.{length}
 use types.Run.{OneOf, miss}
 use denote.Enum.Declared.{tagOf}
-use borrow.Author.Tests.{leb-true}
-use Rattle.memory.specs.Lists.{over, write, Written}
-use Rattle.anomaly.proofs.Numbers.{both}
+use Rattle.memory.specs.Lists.{write, Written}
 use Rattle.anomaly.specs.declared.End.{End}
 use Rattle.anomaly.proofs.End as ends
 use Rattle.anomaly.specs.Table.{numberOfEnd, pcOfEnd, stepsOfEnd}
 use Rattle.text.specs.declared.Head.{Head}
 use Rattle.text.specs.declared.sections.Section.the-variants.{Globals}
 use Rattle.text.specs.Lines.{linesOf}
-use Rattle.text.specs.Text.{textOk}
 use Rattle.text.specs.Sections.{sectionIn}
-use Rattle.text.specs.Names.{Name, namesOf}
+use Rattle.text.specs.Names.{namesOf}
 use Rattle.report.specs.Report.{longest, reportOf, refusalOf}
-use Rattle.program.specs.Image.{Image, Tables, tablesOf, imageOf}
-use Rattle.vm.specs.Machine.{Lent, Machine, Answer, ended, value, done, refused, Called, run, host, intern, perform, Started, declined, begun, start, blank}
+use Rattle.program.specs.Image.{Image, Tables, imageOf}
+use Rattle.vm.specs.Machine.{Lent, Machine, Answer, ended, value, done, refused, Called, run, perform, Started, declined, begun}
 use Rattle.vm.specs.declared.State.{State}
 use Rattle.vm.specs.declared.Reply.{Reply}
 use Rattle.vm.proofs.Reply as replies
 use Rattle.vm.specs.Loop.{answerOf}
 use Rattle.vm.specs.Told.{lentOf, machineOf, saidOf, startedOn}
-use Rattle.image.specs.Runner.{imageWith, imageIn, Interned, internOn, internAll, WritesText, summaryOf, replyText, runText, answerText, internedText, namedText, startedText}
-
-pub text-short : (s : List ℕ) → textOk s ≡ true → length s ≤ 65536
-unfolding textOk
-text-short s h = leb-true (length s) 65536 (both (leb (length s) 65536) _ h .0)
+use Rattle.image.specs.Runner.{imageWith, imageIn, Interned, internAll, WritesText, summaryOf, replyText, runText, answerText, internedText, namedText, startedText}
 
 -- ---- the image's parts
 
@@ -138,9 +129,3 @@ written-says text before after r w h = (w .ends ∙ zero-add (length text), w .i
 
 pub refusal-says : (k : ℕ) (before after : List ℕ) (r : ℕ) → Written before 0 (refusalOf k) after r → r ≡ 0 + 3 → WritesText before (refusalOf k) after r
 refusal-says k before after r w e = written-says (refusalOf k) before after r w (omega arith)
-
--- zeros, and the first of them
-pub take-zeros : (n k : ℕ) → n ≤ k → take {A = ℕ} n (replicate k 0) ≡ replicate n 0
-take-zeros zero k h = refl
-take-zeros (suc n) zero h = absurd (omega arith)
-take-zeros (suc n) (suc k) h = ap (λ (xs : List ℕ). 0 ∷ xs) (take-zeros n k (omega arith))

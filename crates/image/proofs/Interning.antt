@@ -1,8 +1,8 @@
 -- Names interned one after the other: what is left from here is what the whole list was. Assumes nothing.
 use mathlib.Core.Path.{_≡_, refl, sym, ap, ap₂, subst, _∙_}
-use Prim.Native.Nat.{ℕ, zero, suc, _+_, _-_, _*_, _≤_, _<_}
+use Prim.Native.Nat.{ℕ, _+_, _-_, _≤_, _<_}
 use mathlib.Core.Option.{Option, none, some}
-use mathlib.Core.List.{List, [], _∷_}
+use mathlib.Core.List.{List}
 use native.Mathlib.Omega.{arith}
 use lib.ListN.{length, take, drop, set, length-set}
 use Rattle.memory.specs.Lists.{over}
@@ -11,12 +11,12 @@ use Rattle.text.specs.declared.sections.Section.the-variants.{Globals}
 use Rattle.text.specs.declared.names.Named.{Named}
 use Rattle.text.specs.Lines.{linesOf}
 use Rattle.text.specs.Sections.{sectionIn}
-use Rattle.text.specs.Names.{Name, namesOf, nth, nameOf, answerOf, bytesOf}
+use Rattle.text.specs.Names.{Name, namesOf, nameOf, answerOf, bytesOf}
 use Rattle.text.proofs.Indices.{nth-some, nth-none, global-within, names-in, name-short}
 use Rattle.vm.specs.declared.Reply.{Reply}
 use Rattle.vm.specs.Told.{saidOf}
-use Rattle.vm.specs.Machine.{Lent, Machine, Answer, ended, value, done, refused, Called, host, intern, perform}
-use Rattle.image.specs.Runner.{Interned, internOn, internAll}
+use Rattle.vm.specs.Machine.{Machine, Answer, ended, value, done, refused, Called, host, intern, perform}
+use Rattle.image.specs.Runner.{internOn, internAll}
 
 -- a name that was answered
 named-by : (o : Option Name) (global len : ℕ) → answerOf o ≡ Named.At global len → (name : Name) × (o ≡ some name) × (name .global ≡ global) × (length (name .bytes) ≡ len)
