@@ -1,39 +1,30 @@
 -- What the calls of a rating come to in the runner's text. Assumes nothing.
-use mathlib.Core.Path.{_≡_, refl, sym, ap, _∙_}
-use Prim.Native.Nat.{ℕ, zero, suc, _+_, _*_, _≤_, _<_, _^_}
-use mathlib.Core.Bool.{Bool, true, false, _&&_}
+use mathlib.Core.Path.{_≡_, refl, ap, _∙_}
+use Prim.Native.Nat.{ℕ, _+_, _≤_}
 use mathlib.Core.List.{List, [], _∷_}
 use native.Mathlib.Omega.{arith}
 use native.Mathlib.Nat.{zero-add}
-use lib.ListN.{length, take, set, replicate, length-replicate}
-use lib.Dec.{leb}
+use lib.ListN.{length}
 use types.Run.{OneOf, miss}
 use denote.Enum.Declared.{tagOf}
-use borrow.Author.Tests.{leb-true}
-use Rattle.memory.specs.Lists.{over, write, Written}
-use Rattle.anomaly.proofs.Numbers.{both}
+use Rattle.memory.specs.Lists.{write, Written}
 use Rattle.anomaly.specs.declared.End.{End}
 use Rattle.anomaly.proofs.End as ends
 use Rattle.anomaly.specs.Table.{numberOfEnd, pcOfEnd, stepsOfEnd}
 use Rattle.text.specs.declared.Head.{Head}
 use Rattle.text.specs.declared.sections.Section.the-variants.{Globals}
 use Rattle.text.specs.Lines.{linesOf}
-use Rattle.text.specs.Text.{textOk}
 use Rattle.text.specs.Sections.{sectionIn}
-use Rattle.text.specs.Names.{Name, namesOf}
+use Rattle.text.specs.Names.{namesOf}
 use Rattle.report.specs.Report.{longest, reportOf, refusalOf}
-use Rattle.program.specs.Image.{Image, Tables, tablesOf, imageOf}
-use Rattle.vm.specs.Machine.{Lent, Machine, Answer, ended, value, done, refused, Called, run, host, intern, perform, Started, declined, begun, start, blank}
+use Rattle.program.specs.Image.{Image, Tables, imageOf}
+use Rattle.vm.specs.Machine.{Lent, Machine, Answer, ended, value, done, refused, Called, run, perform, Started, declined, begun}
 use Rattle.vm.specs.declared.State.{State}
 use Rattle.vm.specs.declared.Reply.{Reply}
 use Rattle.vm.proofs.Reply as replies
 use Rattle.vm.specs.Told.{answerOf}
 use Rattle.vm.specs.Told.{lentOf, machineOf, saidOf, startedOn}
-use Rattle.image.specs.Runner.{imageWith, imageIn, Entered, entersOn, enters, Says, summaryOf, replyText, ranText, toldText, enteredText, namedText, startedText}
-
-pub text-short : (s : List ℕ) → textOk s ≡ true → length s ≤ 65536
-unfolding textOk
-text-short s h = leb-true (length s) 65536 (both (leb (length s) 65536) _ h .0)
+use Rattle.image.specs.Runner.{imageWith, imageIn, Interned, internAll, WritesText, summaryOf, replyText, runText, answerText, internedText, namedText, startedText}
 
 -- ---- the image's parts
 
@@ -58,7 +49,7 @@ module _ (s : List ℕ) (h : Head) (base : ℕ) (l : Lent) where
   started-refused (declined e) a m q n = rw (ap (λ (c : Called). c .answer) q) refl
   started-refused (begun k) a m q n = absurd (n (ap (λ (c : Called). c .answer) q))
 
-  pub started-done : (x : Started) (m : Machine) → record { answer = done; machine = m } ≡ startedOn x base l → namedText s h (enters (namesOf 0 (linesOf s)) m (sectionIn Globals s)) ≡ startedText s h x
+  pub started-done : (x : Started) (m : Machine) → record { answer = done; machine = m } ≡ startedOn x base l → namedText s h (internAll (namesOf 0 (linesOf s)) m (sectionIn Globals s)) ≡ startedText s h x
   unfolding startedOn startedText
   started-done (declined e) m q = let z : _≡_ {A = ℕ} 0 1 = cc (ap (λ (c : Called). c .answer) q) in absurd (omega arith)
   started-done (begun n) m q = let z : m ≡ n = ap (λ (c : Called). c .machine) q in rw z refl
@@ -66,15 +57,15 @@ module _ (s : List ℕ) (h : Head) (base : ℕ) (l : Lent) where
 -- ---- the names
 
 module _ (s : List ℕ) (h : Head) where
-  pub names-refused : (x : Entered) (a : Answer) (m : Machine) (g : List ℕ) → record { called = record { answer = a; machine = m }; globals = g } ≡ x → (a ≡ done → ⊥) → replyText a ≡ namedText s h x
-  unfolding enteredText
+  pub names-refused : (x : Interned) (a : Answer) (m : Machine) (g : List ℕ) → record { called = record { answer = a; machine = m }; globals = g } ≡ x → (a ≡ done → ⊥) → replyText a ≡ namedText s h x
+  unfolding internedText
   names-refused x done m g e n = absurd (n refl)
   names-refused x (value v) m g e n = rw (← e) refl
   names-refused x (refused k) m g e n = rw (← e) refl
   names-refused x (ended k pc steps) m g e n = rw (← e) refl
 
-  pub names-done : (x : Entered) (m : Machine) (g : List ℕ) → record { called = record { answer = done; machine = m }; globals = g } ≡ x → toldText (perform (run (imageWith g s) (h .budget)) m) ≡ namedText s h x
-  unfolding enteredText
+  pub names-done : (x : Interned) (m : Machine) (g : List ℕ) → record { called = record { answer = done; machine = m }; globals = g } ≡ x → answerText (perform (run (imageWith g s) (h .budget)) m) ≡ namedText s h x
+  unfolding internedText
   names-done x m g e = rw (← e) refl
 
 -- ---- a rating from its start on
@@ -101,46 +92,40 @@ module _ (s : List ℕ) (h : Head) (base : ℕ) (l : Lent) (x : Started) (r : Re
   pub start-says : (saidOf r ≡ done → ⊥) → replyText (saidOf r) ≡ startedText s h x
   start-says n = started-refused s h base l x (saidOf r) m begins n
 
-  module _ (d : saidOf r ≡ done) (globals : List ℕ) (g : globals ≡ sectionIn Globals s) (r′ : Reply) (m′ : Machine) (g′ : List ℕ) (names : record { called = record { answer = saidOf r′; machine = m′ }; globals = g′ } ≡ enters (namesOf 0 (linesOf s)) m globals) where
-    named : namedText s h (enters (namesOf 0 (linesOf s)) m (sectionIn Globals s)) ≡ startedText s h x
+  module _ (d : saidOf r ≡ done) (globals : List ℕ) (g : globals ≡ sectionIn Globals s) (r′ : Reply) (m′ : Machine) (g′ : List ℕ) (names : record { called = record { answer = saidOf r′; machine = m′ }; globals = g′ } ≡ internAll (namesOf 0 (linesOf s)) m globals) where
+    named : namedText s h (internAll (namesOf 0 (linesOf s)) m (sectionIn Globals s)) ≡ startedText s h x
     named = started-done s h base l x m (rw d at begins)
 
-    entered : record { called = record { answer = saidOf r′; machine = m′ }; globals = g′ } ≡ enters (namesOf 0 (linesOf s)) m (sectionIn Globals s)
-    entered = names ∙ ap (λ (y : List ℕ). enters (namesOf 0 (linesOf s)) m y) g
+    entered : record { called = record { answer = saidOf r′; machine = m′ }; globals = g′ } ≡ internAll (namesOf 0 (linesOf s)) m (sectionIn Globals s)
+    entered = names ∙ ap (λ (y : List ℕ). internAll (namesOf 0 (linesOf s)) m y) g
 
     pub names-say : (saidOf r′ ≡ done → ⊥) → replyText (saidOf r′) ≡ startedText s h x
     names-say n = names-refused s h _ (saidOf r′) m′ g′ entered n ∙ named
 
     -- a run is lent no slots, and says the same whatever they are
     pub run-says : saidOf r′ ≡ done → (im : Image) → im ≡ imageWith g′ s → (b : ℕ) → b ≡ h .budget → (st : State) (f p k q : List ℕ) → m′ ≡ machineOf st (lentOf f p k q)
-        → (c : List ℕ → List ℕ → Called) → ((k q : List ℕ) → c k q ≡ perform (run im b) (machineOf st (lentOf f p k q))) → toldText (c k q) ≡ startedText s h x
+        → (c : List ℕ → List ℕ → Called) → ((k q : List ℕ) → c k q ≡ perform (run im b) (machineOf st (lentOf f p k q))) → answerText (c k q) ≡ startedText s h x
     run-says d′ im i b n st f p k q is c e =
         let here : c k q ≡ perform (run (imageWith g′ s) (h .budget)) m′ = e k q ∙ rw (is, n, i) refl in
-        ap toldText here ∙ names-done s h _ m′ g′ (rw d′ at entered) ∙ named
+        ap answerText here ∙ names-done s h _ m′ g′ (rw d′ at entered) ∙ named
 
 -- a text said in another way
-pub says-as : (before after : List ℕ) (r : ℕ) (t u : List ℕ) → t ≡ u → Says before t after r → Says before u after r
+pub says-as : (before after : List ℕ) (r : ℕ) (t u : List ℕ) → t ≡ u → WritesText before t after r → WritesText before u after r
 says-as before after r t u e h = rw (← e) h
 
 -- ---- the text
 
 -- the tags of an end: Halt 0, the budget 1, stopped 2, refused 3
-pub run-reported : (end : End) → OneOf (0 ∷ 1 ∷ 2 ∷ []) (tagOf ends.the-type end) → (s : State) → ranText (answerOf end) s ≡ reportOf (summaryOf (numberOfEnd end) (pcOfEnd end) (stepsOfEnd end) s) (s .regs)
-unfolding answerOf ranText
+pub run-reported : (end : End) → OneOf (0 ∷ 1 ∷ 2 ∷ []) (tagOf ends.the-type end) → (s : State) → runText (answerOf end) s ≡ reportOf (summaryOf (numberOfEnd end) (pcOfEnd end) (stepsOfEnd end) s) (s .regs)
+unfolding answerOf runText
 run-reported (End.Halt pc steps) is s = refl
 run-reported (End.Budget pc steps) is s = refl
 run-reported (End.Stopped why) is s = refl
 run-reported (End.Refused why) is s = absurd (miss (0 ∷ 1 ∷ 2 ∷ []) 3 tt is)
 
-pub written-says : (text before after : List ℕ) (r : ℕ) → Written before 0 text after r → r ≤ longest → Says before text after r
+pub written-says : (text before after : List ℕ) (r : ℕ) → Written before 0 text after r → r ≤ longest → WritesText before text after r
 unfolding write
 written-says text before after r w h = (w .ends ∙ zero-add (length text), w .is, h)
 
-pub refusal-says : (k : ℕ) (before after : List ℕ) (r : ℕ) → Written before 0 (refusalOf k) after r → r ≡ 0 + 3 → Says before (refusalOf k) after r
+pub refusal-says : (k : ℕ) (before after : List ℕ) (r : ℕ) → Written before 0 (refusalOf k) after r → r ≡ 0 + 3 → WritesText before (refusalOf k) after r
 refusal-says k before after r w e = written-says (refusalOf k) before after r w (omega arith)
-
--- zeros, and the first of them
-pub take-zeros : (n k : ℕ) → n ≤ k → take {A = ℕ} n (replicate k 0) ≡ replicate n 0
-take-zeros zero k h = refl
-take-zeros (suc n) zero h = absurd (omega arith)
-take-zeros (suc n) (suc k) h = ap (λ (xs : List ℕ). 0 ∷ xs) (take-zeros n k (omega arith))

@@ -1,4 +1,6 @@
 -- The laws of the image runner.
 pub mod Answers
-pub mod Entries
-pub mod Rooms
+pub mod Interning
+pub mod Limits
+pub mod Parts
+pub mod Readings

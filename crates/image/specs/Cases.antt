@@ -30,9 +30,9 @@ use Rattle.text.specs.Text.{restOk, linesOk, textOk, headIn, headOf}
 use Rattle.text.specs.Sections.{adds, sectionOf}
 use Rattle.text.specs.Names.{namesOf}
 use Rattle.text.specs.Cases.{digits, line, worked}
-use Rattle.report.specs.Hex.{digitOf, hexOf}
+use Rattle.report.specs.Hex.{digitOfValue, hexOf}
 use Rattle.report.specs.Report.{endLine, registerLine, registerLines, stateLine, reportOf, refusalOf}
-use Rattle.image.specs.Runner.{roomFor, entersOn, enters, replyText, ranText, enteredText, startedText, imageText, answerOf}
+use Rattle.image.specs.Runner.{roomFor, internOn, internAll, replyText, runText, internedText, startedText, imageText, answerOf}
 
 -- a header that asks for one page
 abbrev onePage : List ℕ
@@ -94,5 +94,5 @@ rows =
     ∷ []
 
 pub all-hold : holdLists rows ≡ true
-unfolding rows holdLists singles naming allocating ninePages digits worked bytesOf valueOf over write same mixed folded chunks hashOf payloadOf reaches headed holds home probe lookup never filled placed read storedHash movedOne moved enlarged roomOf widened roomy spared Table.slotCount Table.activeOk Table.one Table.filledIn Table.headerIn Table.headersIn Table.countOk Table.slotsOk Table.soundOf headerOf Pages.growOf Pages.gapOf Pages.holds Pages.block Pages.pushed Pages.fitted Pages.allocated pagesOf numbersOf Heap.soundOf Op.rows decodedBy decodeOf checkOf used lacking short setReg setPc setFrames setLand setPages setBytes startOf entriesOf counts rising tablesOk imageOk endsInHalt below wordTest wordTests imageTests within effectOf wordEffect provided forward addressed loaded stored8 returned took apply fetched unless limited step after go root entered stored Names.filled Names.took Names.allocates Names.boxed Names.entered Names.fresh Names.known Names.interned sizes landOf view withPages withNames traced withFrames withRegs ran idle runs hosted laid runLeaves hostLeaves granted hostCall runCall act framesOk heapOk slotsOk returnsOk framesBelong pagesBelong namesBelong tests failing tried perform firstPage firstLand blank begin starts start Digits.digitOf Digits.allDigits Digits.readOn Digits.numbers Lines.before Lines.linesOf Lines.upTo Lines.countOk Lines.lineOk restOk linesOk textOk headIn headOf adds sectionOf namesOf digitOf hexOf endLine registerLine registerLines stateLine reportOf refusalOf roomFor entersOn enters replyText ranText enteredText startedText imageText answerOf
+unfolding rows holdLists singles naming allocating ninePages digits worked bytesOf valueOf over write same mixed folded chunks hashOf payloadOf reaches headed holds home probe lookup never filled placed read storedHash movedOne moved enlarged roomOf widened roomy spared Table.slotCount Table.activeOk Table.filledIn Table.headerIn Table.headersIn Table.countOk Table.slotsOk Table.soundOf headerOf Pages.growOf Pages.gapOf Pages.holds Pages.block Pages.pushed Pages.fitted Pages.allocated pagesOf numbersOf Heap.soundOf Op.rows decodedBy decodeOf checkOf used lacking short setReg setPc setFrames setLand setPages setBytes startOf entriesOf counts rising tablesOk imageOk endsInHalt below wordTest wordTests imageTests within effectOf wordEffect provided forward addressed loaded stored8 returned took apply fetched unless limited step after go root entered stored Names.filled Names.took Names.allocates Names.boxed Names.entered Names.fresh Names.known Names.interned sizes landOf view withPages withNames traced withFrames withRegs ran idle runs hosted laid runLeaves hostLeaves granted hostCall runCall act framesOk heapOk slotsOk returnsOk framesBelong pagesBelong namesBelong tests failing tried perform firstPage firstLand blank begin starts start Digits.valueOfDigit Digits.allDigits Digits.readOn Digits.numbers Lines.before Lines.linesOf Lines.upTo Lines.countOk Lines.lineOk restOk linesOk textOk headIn headOf adds sectionOf namesOf digitOfValue hexOf endLine registerLine registerLines stateLine reportOf refusalOf roomFor internOn internAll replyText runText internedText startedText imageText answerOf
 all-hold = refl

@@ -53,23 +53,23 @@ lentFor h = lentOf (replicate (h .frames) 0) (replicate (h .pages * pageSize) 0)
 -- ---- names
 
 -- what the last call answered, and the globals
-pub record Entered : Type 0 where
+pub record Interned : Type 0 where
   pub called : Called
   pub globals : List ℕ
 
 -- after the call of one name: its value goes to its global, and the rest follows; a refusal ends it
-unfoldable pub entersOn : Answer → Called → List ℕ → ℕ → (Machine → List ℕ → Entered) → Entered
-entersOn (value v) c g global rest = rest (c .machine) (set g global v)
-entersOn (refused e) c g global rest = record { called = c; globals = g }
-entersOn done c g global rest = record { called = c; globals = g }
-entersOn (ended e pc steps) c g global rest = record { called = c; globals = g }
+unfoldable pub internOn : Answer → Called → List ℕ → ℕ → (Machine → List ℕ → Interned) → Interned
+internOn (value v) c g global rest = rest (c .machine) (set g global v)
+internOn (refused e) c g global rest = record { called = c; globals = g }
+internOn done c g global rest = record { called = c; globals = g }
+internOn (ended e pc steps) c g global rest = record { called = c; globals = g }
 
 -- 'each interning is a call of its own, and names before a refused one stay'
-unfoldable pub enters : List Name → Machine → List ℕ → Entered
-enters [] m g = record { called = record { answer = done; machine = m }; globals = g }
-enters (name ∷ names) m g =
+unfoldable pub internAll : List Name → Machine → List ℕ → Interned
+internAll [] m g = record { called = record { answer = done; machine = m }; globals = g }
+internAll (name ∷ names) m g =
     let c = perform (host (intern (name .bytes))) m in
-    entersOn (c .answer) c g (name .global) (enters names)
+    internOn (c .answer) c g (name .global) (internAll names)
 
 -- ---- the output
 
@@ -84,33 +84,33 @@ replyText done = []
 replyText (ended e pc steps) = []
 
 -- of a run: its report, or the number by which it was refused
-unfoldable pub ranText : Answer → State → List ℕ
-ranText (ended e pc steps) s = reportOf (summaryOf e pc steps s) (s .regs)
-ranText (refused e) s = refusalOf e
-ranText (value v) s = []
-ranText done s = []
+unfoldable pub runText : Answer → State → List ℕ
+runText (ended e pc steps) s = reportOf (summaryOf e pc steps s) (s .regs)
+runText (refused e) s = refusalOf e
+runText (value v) s = []
+runText done s = []
 
-abbrev pub toldText : Called → List ℕ
-toldText c = ranText (c .answer) (c .machine .state)
+abbrev pub answerText : Called → List ℕ
+answerText c = runText (c .answer) (c .machine .state)
 
 -- `after` begins with a text of r bytes, no longer than the longest report, and is else as `before` was
-abbrev pub Says : List ℕ → List ℕ → List ℕ → ℕ → Type 0
-Says before text after r = (r ≡ length text) × (after ≡ over text before) × (r ≤ longest)
+abbrev pub WritesText : List ℕ → List ℕ → List ℕ → ℕ → Type 0
+WritesText before text after r = (r ≡ length text) × (after ≡ over text before) × (r ≤ longest)
 
 -- 'It runs from pc 0' once all names are there
-unfoldable pub enteredText : Answer → List ℕ → Head → Entered → List ℕ
-enteredText done s h x = toldText (perform (run (imageWith (x .globals) s) (h .budget)) (x .called .machine))
-enteredText (refused e) s h x = replyText (refused e)
-enteredText (value v) s h x = replyText (value v)
-enteredText (ended e pc steps) s h x = replyText (ended e pc steps)
+unfoldable pub internedText : Answer → List ℕ → Head → Interned → List ℕ
+internedText done s h x = answerText (perform (run (imageWith (x .globals) s) (h .budget)) (x .called .machine))
+internedText (refused e) s h x = replyText (refused e)
+internedText (value v) s h x = replyText (value v)
+internedText (ended e pc steps) s h x = replyText (ended e pc steps)
 
-abbrev pub namedText : List ℕ → Head → Entered → List ℕ
-namedText s h x = enteredText (x .called .answer) s h x
+abbrev pub namedText : List ℕ → Head → Interned → List ℕ
+namedText s h x = internedText (x .called .answer) s h x
 
 -- 'An image is loaded or refused before its names are interned'
 unfoldable pub startedText : List ℕ → Head → Started → List ℕ
 startedText s h (declined e) = replyText (refused e)
-startedText s h (begun m) = namedText s h (enters (namesOf 0 (linesOf s)) m (sectionIn Globals s))
+startedText s h (begun m) = namedText s h (internAll (namesOf 0 (linesOf s)) m (sectionIn Globals s))
 
 unfoldable pub imageText : Bool → List ℕ → Head → List ℕ
 imageText true s h = startedText s h (start (imageIn s) (h .base) (lentFor h))

@@ -16,11 +16,12 @@ ghost use Rattle.vm.specs.Machine.{start, run, perform};
 ghost use Rattle.vm.specs.Told.{lentOf, machineOf, saidOf, told};
 ghost use Rattle.vm.specs.Told.{answerOf};
 ghost use Rattle.image.specs.Runner as Runner;
-ghost use Rattle.image.specs.Runner.{imageWith, imageIn, lentFor, fits, roomFor, Entered, enters, replyText, summaryOf, ranText, toldText, namedText, startedText, imageText, Says};
+ghost use Rattle.image.specs.Runner.{imageWith, imageIn, lentFor, fits, roomFor, Interned, internAll, replyText, summaryOf, runText, answerText, namedText, startedText, imageText, WritesText};
 use anomaly::End;
 use anomaly::Refusal;
 use anomaly::Steps;
 use gc::PAGE_SIZE;
+use report::LONGEST;
 use report::Summary;
 use run::Ran;
 use text::Head;
@@ -37,7 +38,7 @@ use vm::start;
 // The report of a run that was made.
 fn put_run(out: &mut [u8], end: End, state: State) -> usize
     requires { ⌜ longest ≤ length (now out) ⌝ }
-    ensures { λ r. ⌜ Says (now (out .entry)) (reportOf (summaryOf (numberOfEnd end) (pcOfEnd end) (stepsOfEnd end) state) (state .regs)) (now (out .exit)) r ⌝ }
+    ensures { λ r. ⌜ WritesText (now (out .entry)) (reportOf (summaryOf (numberOfEnd end) (pcOfEnd end) (stepsOfEnd end) state) (state .regs)) (now (out .exit)) r ⌝ }
 {
     let gc = state.gc;
     let strings = state.strings;
@@ -57,7 +58,7 @@ fn put_run(out: &mut [u8], end: End, state: State) -> usize
 // The report of a run, or the number by which it was refused.
 fn put_ran(out: &mut [u8], ran: Ran) -> usize
     requires { ⌜ longest ≤ length (now out) ⌝ }
-    ensures { λ r. ⌜ Says (now (out .entry)) (ranText (answerOf (ran .end)) (ran .state)) (now (out .exit)) r ⌝ }
+    ensures { λ r. ⌜ WritesText (now (out .entry)) (runText (answerOf (ran .end)) (ran .state)) (now (out .exit)) r ⌝ }
 {
     let end = ran.end;
     let state = ran.state;
@@ -78,7 +79,7 @@ fn intern_names(
     name: &mut [u8],
 ) -> Called
     requires { ⌜ (length (now input) ≤ 65536) × (length (sectionIn Section.Globals (now input)) ≤ length (now globals)) × (32768 ≤ length (now name)) ⌝ }
-    ensures { λ r. ⌜ ((frames : List ℕ) → record { called = told r (lentOf frames (now (heap .exit)) (now (slots .exit)) (now (spare .exit))); globals = now (globals .exit) } ≡ enters (namesOf 0 (linesOf (now (input .entry)))) (machineOf state (lentOf frames (now (heap .entry)) (now (slots .entry)) (now (spare .entry)))) (now (globals .entry))) ⌝ }
+    ensures { λ r. ⌜ ((frames : List ℕ) → record { called = told r (lentOf frames (now (heap .exit)) (now (slots .exit)) (now (spare .exit))); globals = now (globals .exit) } ≡ internAll (namesOf 0 (linesOf (now (input .entry)))) (machineOf state (lentOf frames (now (heap .entry)) (now (slots .entry)) (now (spare .entry)))) (now (globals .entry))) ⌝ }
 {
     let mut s = state;
     let mut i: usize = 0;
@@ -103,7 +104,7 @@ fn intern_names(
 // The number of a refusal; of another reply nothing.
 fn put_reply(out: &mut [u8], reply: Reply) -> usize
     requires { ⌜ longest ≤ length (now out) ⌝ }
-    ensures { λ r. ⌜ Says (now (out .entry)) (replyText (saidOf reply)) (now (out .exit)) r ⌝ }
+    ensures { λ r. ⌜ WritesText (now (out .entry)) (replyText (saidOf reply)) (now (out .exit)) r ⌝ }
 {
     match reply {
         Reply::Refused(why) => report::put_refusal(out, 0, why.number()),
@@ -133,7 +134,7 @@ fn rate(
     out: &mut [u8],
 ) -> usize
     requires { ⌜ (textOk (now input) ≡ true) × (32768 ≤ length (now name)) × (longest ≤ length (now out)) × (head .budget < 2 ^ 32) × ((imageOf (now code) (now globals) (tablesOf (now «switch_firsts») (now «switch_ends») (now «switch_entries»)) (tablesOf (now «lookup_firsts») (now «lookup_ends») (now «lookup_entries»)) (now defaults)) ≡ imageIn (now input)) × (lentOf (now frames) (now heap) (now slots) (now spare) ≡ lentFor head) ⌝ }
-    ensures { λ r. ⌜ Says (now (out .entry)) (startedText (now (input .entry)) head (start (imageIn (now (input .entry))) (head .base) (lentFor head))) (now (out .exit)) r ⌝ }
+    ensures { λ r. ⌜ WritesText (now (out .entry)) (startedText (now (input .entry)) head (start (imageIn (now (input .entry))) (head .base) (lentFor head))) (now (out .exit)) r ⌝ }
 {
     let begun = start::start(
         head.base,
@@ -242,7 +243,7 @@ fn room_for(
 // An image gathered into buffers of the runner's limits, and rated.
 fn answer_image(input: &[u8], head: Head, out: &mut [u8]) -> usize
     requires { ⌜ (textOk (now input) ≡ true) × (head ≡ headOf (now input)) × (longest ≤ length (now out)) ⌝ }
-    ensures { λ r. ⌜ Says (now (out .entry)) (imageText (roomFor head (now (input .entry))) (now (input .entry)) head) (now (out .exit)) r ⌝ }
+    ensures { λ r. ⌜ WritesText (now (out .entry)) (imageText (roomFor head (now (input .entry))) (now (input .entry)) head) (now (out .exit)) r ⌝ }
 {
     let mut code = [0u64; 4096];
     let mut globals = [0u64; 4096];
@@ -305,8 +306,8 @@ fn answer_image(input: &[u8], head: Head, out: &mut [u8]) -> usize
 }
 
 // The runner's output for an input, at the start of `out`; its length.
-pub fn answer(input: &[u8], out: &mut [u8; 656]) -> usize
-    ensures { λ r. ⌜ Says (now (out .entry)) (Runner.answerOf (now (input .entry))) (now (out .exit)) r ⌝ }
+pub fn answer(input: &[u8], out: &mut [u8; LONGEST]) -> usize
+    ensures { λ r. ⌜ WritesText (now (out .entry)) (Runner.answerOf (now (input .entry))) (now (out .exit)) r ⌝ }
 {
     let Reading::Image(head) = text::read(input) else {
         return report::put_refusal(out, 0, Refusal::TEXT);

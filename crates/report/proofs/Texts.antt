@@ -9,7 +9,7 @@ use native.Mathlib.Omega.{arith}
 use Rattle.memory.specs.Lists.{write, Written}
 use Rattle.memory.proofs.Over.{set-write, sets-write}
 use Rattle.memory.proofs.Writes.{write-behind}
-use Rattle.report.specs.Hex.{digitOf, hexOf}
+use Rattle.report.specs.Hex.{digitOfValue, hexOf}
 use Rattle.report.specs.Report.{registerLine, registerLines}
 
 -- ---- digits
@@ -38,15 +38,15 @@ module _ (before : List ℕ) (at count v : ℕ) where
       (record { ends = rw (length-hex count v) (omega (arith, d .place)); is = sets-write [] out i ∙ rest }, omega (arith, d .place))
 
   pub digits-next : (i left next x : ℕ) (out : List ℕ) → Digits before at count v left i out → 0 < left → next ≡ left - 1 →
-      x ≡ digitOf (v / 2 ^ (4 * next) % 16) → length (set out i x) ≡ length out → Digits before at count v next (i + 1) (set out i x)
+      x ≡ digitOfValue (v / 2 ^ (4 * next) % 16) → length (set out i x) ≡ length out → Digits before at count v next (i + 1) (set out i x)
   unfolding hexOf
   digits-next i left next x out d h n here kept =
       let z : left ≡ suc next = omega arith in
-      let rest : write i (digitOf (v / 2 ^ (4 * next) % 16) ∷ hexOf next v) out ≡ write at (hexOf count v) before = rw z at (d .rest) in
+      let rest : write i (digitOfValue (v / 2 ^ (4 * next) % 16) ∷ hexOf next v) out ≡ write at (hexOf count v) before = rw z at (d .rest) in
       record {
         place = omega (arith, d .place);
         few = omega (arith, d .few);
-        rest = rw (add-one, here) (set-write i (digitOf (v / 2 ^ (4 * next) % 16)) (hexOf next v) out ∙ rest);
+        rest = rw (add-one, here) (set-write i (digitOfValue (v / 2 ^ (4 * next) % 16)) (hexOf next v) out ∙ rest);
         long = kept ∙ d .long;
       }
 

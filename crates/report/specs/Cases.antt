@@ -6,7 +6,7 @@ use Prim.Native.Nat.{ℕ}
 use lib.ListN.{replicate}
 use Rattle.memory.specs.Lists.{same}
 use Rattle.memory.specs.Rows.{holdLists}
-use Rattle.report.specs.Hex.{digitOf, hexOf}
+use Rattle.report.specs.Hex.{digitOfValue, hexOf}
 use Rattle.report.specs.Report.{endLine, registerLine, registerLines, stateLine, reportOf, refusalOf}
 use Rattle.report.specs.declared.Summary.{Summary}
 
@@ -36,5 +36,5 @@ rows =
     ∷ []
 
 pub all-hold : holdLists rows ≡ true
-unfolding rows holdLists same digitOf hexOf endLine registerLine registerLines stateLine reportOf refusalOf
+unfolding rows holdLists same digitOfValue hexOf endLine registerLine registerLines stateLine reportOf refusalOf
 all-hold = refl

@@ -4,12 +4,15 @@ ghost use mathlib.Core.Path.{_≡_};
 ghost use Prim.Native.Nat.{_+_, _*_, _≤_, _<_};
 ghost use lib.ListN.{length};
 ghost use Rattle.memory.specs.Lists.{Written};
-ghost use Rattle.report.specs.Hex.{digitOf, hexOf};
+ghost use Rattle.report.specs.Hex.{digitOfValue, hexOf};
 ghost use Rattle.report.specs.Report.{lineFeed, endLine, registerLine, registerLines, stateLine, reportOf, longest, refusalOf};
 
 // The length of the longest report: 27 bytes of the first line, 19 for each of 32 registers, 21 of
 // the last line.
-pub const LONGEST: usize = 656;
+pub const LONGEST: usize = 27 + 19 * 32 + 21;
+
+// What a letter's byte is above its value.
+const LETTERS: u8 = b'a' - 10;
 
 // What a report shows beside the registers. `pushed` counts the bytes of pushed pages, `len`
 // is the length of the last page, `strings` the count of stored names.
@@ -26,9 +29,13 @@ pub struct Summary {
 // The digit of a value below 16.
 fn digit(v: u64) -> u8
     requires { ⌜ v < 16 ⌝ }
-    ensures { λ r. ⌜ r ≡ digitOf v ⌝ }
+    ensures { λ r. ⌜ r ≡ digitOfValue v ⌝ }
 {
-    if v < 10 { 48 + v as u8 } else { 87 + v as u8 }
+    if v < 10 {
+        b'0' + v as u8
+    } else {
+        LETTERS + v as u8
+    }
 }
 
 // The lowest `count` digits of `v`, written from `at` on; the place after them.
@@ -50,7 +57,7 @@ fn put_line_feed(out: &mut [u8], at: usize) -> usize
     requires { ⌜ at + 1 ≤ length (now out) ⌝ }
     ensures { λ r. ⌜ Written (now (out .entry)) at lineFeed (now (out .exit)) r × (r ≡ at + 1) ⌝ }
 {
-    out[at] = 10;
+    out[at] = b'\n';
     at + 1
 }
 

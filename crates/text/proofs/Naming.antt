@@ -10,6 +10,7 @@ use native.Mathlib.Nat.{sub-zero}
 use native.Mathlib.Omega.{arith}
 use borrow.Author.Tests.{eqb-true}
 use Rattle.memory.specs.Lists.{over, write, Written}
+use Rattle.anomaly.proofs.Numbers.{both}
 use Rattle.text.specs.Digits.{field}
 use Rattle.text.specs.Lines.{linesOf, kindOf, payloadOf}
 use Rattle.text.specs.Sections.{adds}
@@ -50,11 +51,6 @@ bit : Bool → ℕ
 bit true = 1
 bit false = 0
 
-both : (five first : Bool) → (five && first) ≡ true → (five ≡ true) × (first ≡ true)
-unfolding bit
-both true first h = (refl, h)
-both false first h = absurd (omega (arith, ap bit h))
-
 passed : (five : Bool) (left one : ℕ) (name : Name) (more : List Name) → (five && eqb left 0) ≡ false → one ≡ cond five 1 0 →
     (one ≤ left) × (nth left (cond five (name ∷ []) [] ++ more) ≡ nth (left - one) more)
 unfolding nth bit
@@ -62,14 +58,14 @@ passed true zero one name more h is = absurd (omega (arith, ap bit h))
 passed true (suc left) one name more h is = let back : suc left - one ≡ left = omega arith in (omega arith, rw back)
 passed false left one name more h is = let back : left - one ≡ left = omega arith in (omega arith, rw back)
 
+pub one : (here : Bool) (v : ℕ) → length (cond here (v ∷ []) []) ≡ cond here 1 0
+one true v = refl
+one false v = refl
+
 -- how many globals a line makes
 pub ones : (targets values k : ℕ) (p : List ℕ) → length (adds Globals targets values k p) ≡ cond (eqb k 2) 1 0 + cond (eqb k 5) 1 0
 unfolding adds
 ones targets values k p = rw (length-append, one (eqb k 2) (field 0 16 p), one (eqb k 5) 0)
-  where
-    one : (here : Bool) (v : ℕ) → length (cond here (v ∷ []) []) ≡ cond here 1 0
-    one true v = refl
-    one false v = refl
 
 one-few : (here : Bool) → cond here 1 0 ≤ 1
 one-few true = omega arith

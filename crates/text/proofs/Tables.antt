@@ -1,6 +1,6 @@
 -- The tables of a text: as many firsts as ends and defaults, and ends that go up to the number of entries. Assumes nothing.
 use Prim.Native.Nat.{ℕ, _+_, _≤_}
-use mathlib.Core.Path.{_≡_, refl, _∙_}
+use mathlib.Core.Path.{_≡_, refl, sym, _∙_}
 use mathlib.Core.Bool.{Bool, true, false, cond}
 use mathlib.Core.List.{List, [], _∷_, _++_}
 use lib.ListN.{length, length-append}
@@ -11,12 +11,9 @@ use Rattle.text.specs.Lines.{Lines, none, cut, line, linesOf, kindOf, pa
 use Rattle.text.specs.Sections.{targetsIn, valuesIn, adds, targetsWith, valuesWith, sectionOf, sectionIn}
 use Rattle.text.specs.declared.sections.Section.{Section}
 use Rattle.text.specs.declared.sections.Section.the-variants.{SwitchFirsts, SwitchEnds, SwitchEntries, LookupFirsts, LookupDefaults, LookupEnds, LookupEntries}
+use Rattle.text.proofs.Naming.{one}
 
 -- ---- sections of one number a table
-
-one : (here : Bool) (x y : ℕ) → length (cond here (x ∷ []) []) ≡ length (cond here (y ∷ []) [])
-one true x y = refl
-one false x y = refl
 
 module _ (a b : Section) (same : (t v k : ℕ) (p : List ℕ) → length (adds a t v k p) ≡ length (adds b t v k p)) where
   alike : (t v : ℕ) (lines : Lines) → length (sectionOf a t v lines) ≡ length (sectionOf b t v lines)
@@ -32,15 +29,15 @@ module _ (a b : Section) (same : (t v k : ℕ) (p : List ℕ) → length (adds a
 
 pub switch-ends-firsts : (s : List ℕ) → length (sectionIn SwitchEnds s) ≡ length (sectionIn SwitchFirsts s)
 unfolding adds
-switch-ends-firsts s = alike SwitchEnds SwitchFirsts (λ t v k p. one (eqb k 3) _ _) 0 0 (linesOf s)
+switch-ends-firsts s = alike SwitchEnds SwitchFirsts (λ t v k p. one (eqb k 3) _ ∙ sym (one (eqb k 3) _)) 0 0 (linesOf s)
 
 pub lookup-ends-firsts : (s : List ℕ) → length (sectionIn LookupEnds s) ≡ length (sectionIn LookupFirsts s)
 unfolding adds
-lookup-ends-firsts s = alike LookupEnds LookupFirsts (λ t v k p. one (eqb k 4) _ _) 0 0 (linesOf s)
+lookup-ends-firsts s = alike LookupEnds LookupFirsts (λ t v k p. one (eqb k 4) _ ∙ sym (one (eqb k 4) _)) 0 0 (linesOf s)
 
 pub lookup-defaults-firsts : (s : List ℕ) → length (sectionIn LookupDefaults s) ≡ length (sectionIn LookupFirsts s)
 unfolding adds
-lookup-defaults-firsts s = alike LookupDefaults LookupFirsts (λ t v k p. one (eqb k 4) _ _) 0 0 (linesOf s)
+lookup-defaults-firsts s = alike LookupDefaults LookupFirsts (λ t v k p. one (eqb k 4) _ ∙ sym (one (eqb k 4) _)) 0 0 (linesOf s)
 
 -- ---- ends
 

@@ -10,7 +10,7 @@ use lib.Dec.{ltb}
 use Rattle.memory.specs.Lists.{same}
 use Rattle.memory.specs.Rows.{holdLists}
 use Rattle.anomaly.specs.Table.{numberOfRefusal}
-use Rattle.text.specs.Digits.{digitOf, allDigits, readOn, numbers}
+use Rattle.text.specs.Digits.{valueOfDigit, allDigits, readOn, numbers}
 use Rattle.text.specs.Lines as Lines
 use Rattle.text.specs.Text.{restOk, linesOk, textOk, headIn, headOf, readOf}
 use Rattle.text.specs.Sections.{adds, sectionOf, sectionIn}
@@ -91,5 +91,5 @@ rows =
     ∷ []
 
 pub all-hold : holdLists rows ≡ true
-unfolding rows holdLists same digits worked everyKind told toldName digitOf allDigits readOn numbers Lines.before Lines.linesOf Lines.upTo Lines.countOk Lines.lineOk restOk linesOk textOk headIn headOf readOf adds sectionOf namesOf nth
+unfolding rows holdLists same digits worked everyKind told toldName valueOfDigit allDigits readOn numbers Lines.before Lines.linesOf Lines.upTo Lines.countOk Lines.lineOk restOk linesOk textOk headIn headOf readOf adds sectionOf namesOf nth
 all-hold = refl

@@ -1,23 +1,26 @@
 // Hexadecimal digits, lower case, highest first.
 ghost use mathlib.Core.Path.{_≡_};
 ghost use Prim.Native.Nat.{_≤_, _<_, _^_, _*_};
-ghost use Rattle.text.specs.Digits.{digitOf, allDigits, field};
+ghost use Rattle.text.specs.Digits.{valueOfDigit, allDigits, field};
+
+// What a letter's byte is above its value.
+const LETTERS: u8 = b'a' - 10;
 
 // The value of a digit; 16 of any other byte.
 fn digit(c: u8) -> u64
-    ensures { λ r. ⌜ r ≡ digitOf c ⌝ }
+    ensures { λ r. ⌜ r ≡ valueOfDigit c ⌝ }
 {
-    if c < 48 {
+    if c < b'0' {
         return 16;
     }
-    if c < 58 {
-        return (c - 48) as u64;
+    if c <= b'9' {
+        return (c - b'0') as u64;
     }
-    if c < 97 {
+    if c < b'a' {
         return 16;
     }
-    if c < 103 {
-        return (c - 87) as u64;
+    if c <= b'f' {
+        return (c - LETTERS) as u64;
     }
     16
 }

@@ -29,7 +29,7 @@ pub fn line_end(s: &[u8], at: usize) -> usize
     let mut i = at;
     while i < s.len() {
         let c = s[i];
-        if c == 10 {
+        if c == b'\n' {
             return i;
         }
         i += 1;

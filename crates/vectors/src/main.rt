@@ -10,6 +10,7 @@ ghost use mathlib.Core.Path.{_≡_};
 ghost use lib.ListN.{length};
 use libc::STDIN_FILENO;
 use libc::STDOUT_FILENO;
+use report::LONGEST;
 
 // Where a case's line has the two lengths and the name.
 const IMAGE_AT: usize = 9;
@@ -131,8 +132,8 @@ fn line_end(all: &[u8], at: usize) -> usize {
     i
 }
 
-fn is_same(out: &[u8; 656], n: usize, stored: &[u8]) -> bool {
-    if n > 656 {
+fn is_same(out: &[u8; LONGEST], n: usize, stored: &[u8]) -> bool {
+    if n > LONGEST {
         return false;
     }
     if n != stored.len() {
@@ -149,7 +150,7 @@ fn is_same(out: &[u8; 656], n: usize, stored: &[u8]) -> bool {
 }
 
 fn agrees(input: &[u8], stored: &[u8]) -> bool {
-    let mut out = [0u8; 656];
+    let mut out = [0u8; LONGEST];
     let n = image::answer(input, &mut out);
     is_same(&out, n, stored)
 }
@@ -185,7 +186,7 @@ fn subject(line: &[u8], at: usize, counts: Counts) -> Next {
 }
 
 // The name of a case whose answer is not the stored one.
-fn name(line: &[u8]) {
+fn print_name(line: &[u8]) {
     if line.len() >= NAME_AT {
         io::write_all(STDOUT_FILENO, b"[");
         io::write_all(STDOUT_FILENO, &line[NAME_AT..]);
@@ -241,7 +242,7 @@ fn case(all: &[u8], line: &[u8], at: usize, counts: Counts) -> Next {
     let end = middle + m;
     let agrees = agrees(&all[at..middle], &all[middle..end]);
     if !agrees {
-        name(line);
+        print_name(line);
     }
     Next {
         at: end,

@@ -4,7 +4,7 @@ use mathlib.Core.Bool.{true}
 use Rattle.text.specs.Text.{textOk, headOf}
 use Rattle.image.specs.Runner.{answerOf}
 use Rattle.image.proofs.Answers.{refusal-says}
-use Rattle.image.proofs.Rooms.{read-head, read-nothing}
+use Rattle.image.proofs.Readings.{read-head, read-nothing}
 use borrow.Author.Needs.{needs}
 use Rattle.image.proofs.answer.Statement.{statement}
 use Rattle.image.proofs.answer.Tie as tie

@@ -1,19 +1,20 @@
 -- `image::answer_image` meets its contract. Assumes nothing.
-use mathlib.Core.Path.{_≡_, refl, sym, _∙_}
-use mathlib.Core.Bool.{true}
+use mathlib.Core.Path.{_≡_, sym, _∙_}
 use mathlib.Core.List.{List}
 use Prim.Native.Nat.{ℕ, _*_}
 use native.Mathlib.Omega.{arith}
-use lib.ListN.{length, replicate}
+use lib.ListN.{replicate}
 use borrow.Author.Tests.{not-true, not-false}
 use Rattle.gc.specs.Lent.{pageSize}
 use Rattle.text.specs.declared.Head.{Head}
 use Rattle.text.specs.declared.sections.Section.the-variants.{Code, Globals, SwitchFirsts, SwitchEnds, SwitchEntries, LookupFirsts, LookupDefaults, LookupEnds, LookupEntries}
 use Rattle.text.specs.Sections.{sectionIn}
+use Rattle.text.proofs.Numbers.{budget-small}
 use Rattle.text.proofs.Tables.{switch-ends-firsts, lookup-ends-firsts, lookup-defaults-firsts}
-use Rattle.image.specs.Runner.{fits, roomFor, imageText}
+use Rattle.image.specs.Runner.{roomFor, imageText}
 use Rattle.image.proofs.Answers.{refusal-says}
-use Rattle.image.proofs.Rooms.{Fits, fitting, counted, Part, section-part, zeros-part, image-of-parts, lent-of-parts, budget-small}
+use Rattle.image.proofs.Limits.{Fits, fitting, counted}
+use Rattle.image.proofs.Parts.{Part, section-part, zeros-part, image-of-parts, lent-of-parts}
 use borrow.Author.Needs.{needs}
 use Rattle.image.proofs.answer_image.Statement.{statement}
 use Rattle.image.proofs.answer_image.Tie as tie

@@ -10,13 +10,13 @@ use Rattle.text.specs.Lines.{linesOf}
 use Rattle.text.specs.Names.{namesOf, nameOf, answerOf, bytesOf}
 use Rattle.vm.specs.Told.{lentOf, machineOf, saidOf, told}
 use Rattle.image.proofs.Answers.{not-value}
-use Rattle.image.proofs.Entries.{Entering, entering-first, entering-next, entered-all, entered-some, bytes-there, bytes-back, global-there, more-left, few-names}
+use Rattle.image.proofs.Interning.{Interning, interning-first, interning-next, interned-all, interned-some, bytes-there, bytes-back, global-there, more-left, few-names}
 use borrow.Author.Needs.{needs}
 use Rattle.image.proofs.intern_names.Statement.{statement}
 use Rattle.image.proofs.intern_names.Tie as tie
 
 abbrev Inv-loop : tie.InvT-loop
-Inv-loop input globals₀ heap₀ slots₀ spare₀ name₀ s₀ i₀ globals heap slots spare name s i = Entering input (λ (frames : List ℕ). machineOf s₀ (lentOf frames heap₀ slots₀ spare₀)) globals₀ (λ (frames : List ℕ). machineOf s (lentOf frames heap slots spare)) globals i × (length heap ≡ length heap₀) × (length slots ≡ length slots₀) × (length spare ≡ length spare₀) × (length name ≡ length name₀)
+Inv-loop input globals₀ heap₀ slots₀ spare₀ name₀ s₀ i₀ globals heap slots spare name s i = Interning input (λ (frames : List ℕ). machineOf s₀ (lentOf frames heap₀ slots₀ spare₀)) globals₀ (λ (frames : List ℕ). machineOf s (lentOf frames heap slots spare)) globals i × (length heap ≡ length heap₀) × (length slots ≡ length slots₀) × (length spare ≡ length spare₀) × (length name ≡ length name₀)
 
 abbrev μ-loop : tie.MeasureT-loop
 μ-loop input globals₀ heap₀ slots₀ spare₀ name₀ s₀ i₀ globals heap slots spare name s i = length (namesOf 0 (linesOf input)) - i
@@ -67,14 +67,14 @@ found-before c = c .before .before .before .before .before .before
 -- ---- needs
 
 loop-holds : tie.Need-loop-holds Inv-loop μ-loop
-loop-holds c = (entering-first _ _ _, refl, refl, refl, refl)
+loop-holds c = (interning-first _ _ _, refl, refl, refl, refl)
 
 returns : tie.Need-returns Inv-loop μ-loop
 unfolding saidOf
 returns c =
     let name = c .before .before .before .before in
     let turn = name .before .before in
-    entered-all (turn .loop .inv .0) (sym (name .name .ensures .0) ∙ c .enum-told .given .1)
+    interned-all (turn .loop .inv .0) (sym (name .name .ensures .0) ∙ c .enum-told .given .1)
 
 slice-reshare-prefix-intern : tie.Need-slice-reshare-prefix-intern Inv-loop μ-loop
 slice-reshare-prefix-intern c = there (c .before)
@@ -86,7 +86,7 @@ returns-2 : tie.Need-returns-2 Inv-loop μ-loop
 returns-2 c =
     let intern = c .before .before .before .before .before .before .before in
     let name = found-before intern in
-    entered-some (turn-of name .loop .inv .0) (found name) (back name) (λ (f : List ℕ). told (intern .intern .result) (lentOf f _ _ _)) (intern .intern .ensures) (λ f. not-value _ (c .match2 .keys2))
+    interned-some (turn-of name .loop .inv .0) (found name) (back name) (λ (f : List ℕ). told (intern .intern .result) (lentOf f _ _ _)) (intern .intern .ensures) (λ f. not-value _ (c .match2 .keys2))
 
 mul-globals : tie.Need-mul-globals Inv-loop μ-loop
 mul-globals c =
@@ -113,7 +113,7 @@ loop-again c =
     let reply = c .before .before in
     let intern = interned-before reply in
     let name = found-before intern in
-    (entering-next (turn-of name .loop .inv .0) (found name) (back name) (reply .reply .given .1) _ (intern .intern .ensures), cc, cc, cc, cc)
+    (interning-next (turn-of name .loop .inv .0) (found name) (back name) (reply .reply .given .1) _ (intern .intern .ensures), cc, cc, cc, cc)
 
 pub intern-names-spec : {M : Type 1} → statement M
 intern-names-spec =

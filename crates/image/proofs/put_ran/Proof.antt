@@ -1,6 +1,6 @@
 -- `image::put_ran` meets its contract. Assumes nothing.
 use Rattle.vm.specs.Told.{answerOf}
-use Rattle.image.specs.Runner.{ranText}
+use Rattle.image.specs.Runner.{runText}
 use Rattle.image.proofs.Answers.{refusal-says, run-reported}
 use borrow.Author.Needs.{needs}
 use Rattle.image.proofs.put_ran.Statement.{statement}
@@ -13,7 +13,7 @@ returns c =
     rw (run-reported _ (match-end .match .keys2) _) (put-run .put-run .ensures)
 
 returns-2 : tie.Need-returns-2
-unfolding answerOf ranText
+unfolding answerOf runText
 returns-2 c =
     let put-refusal = c .before .before in
     let number = put-refusal .before in

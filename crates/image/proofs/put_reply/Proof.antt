@@ -1,5 +1,5 @@
 -- `image::put_reply` meets its contract. Assumes nothing.
-use mathlib.Core.Path.{_≡_, refl}
+use mathlib.Core.Path.{refl}
 use lib.Dec.{lit≤}
 use Rattle.memory.specs.Lists.{over}
 use Rattle.vm.specs.Told.{saidOf}

@@ -1,5 +1,4 @@
 -- `image::put_run` meets its contract. Assumes nothing.
-use mathlib.Core.Path.{_≡_, refl}
 use Rattle.image.proofs.Answers.{written-says}
 use borrow.Author.Needs.{needs}
 use Rattle.image.proofs.put_run.Statement.{statement}

@@ -1,7 +1,8 @@
 -- `image::rate` meets its contract. Assumes nothing.
-use mathlib.Core.Path.{_≡_, refl}
+use mathlib.Core.Path.{refl}
 use native.Mathlib.Omega.{arith}
-use Rattle.image.proofs.Answers.{text-short, with-globals, globals-are, not-done, done-is, start-says, names-say, run-says, says-as}
+use Rattle.image.proofs.Readings.{text-short}
+use Rattle.image.proofs.Answers.{with-globals, globals-are, not-done, done-is, start-says, names-say, run-says, says-as}
 use borrow.Author.Needs.{needs}
 use Rattle.image.proofs.rate.Statement.{statement}
 use Rattle.image.proofs.rate.Tie as tie

@@ -1,16 +1,16 @@
 -- `report::digit` meets its contract. Assumes nothing.
 use borrow.Author.Tests.{lt-ltb, le-ltb}
-use Rattle.report.specs.Hex.{digitOf}
+use Rattle.report.specs.Hex.{digitOfValue}
 use borrow.Author.Needs.{needs}
 use Rattle.report.proofs.digit.Statement.{statement}
 use Rattle.report.proofs.digit.Tie as tie
 
 returns : tie.Need-returns
-unfolding digitOf
+unfolding digitOfValue
 returns c = rw (lt-ltb _ _ (c .if1 .taken))
 
 returns-2 : tie.Need-returns-2
-unfolding digitOf
+unfolding digitOfValue
 returns-2 c = rw (le-ltb _ _ (c .if1 .left))
 
 pub digit-spec : {M : Type 1} → statement M

@@ -1,5 +1,6 @@
 -- `text::digits::number` meets its contract. Assumes nothing.
 use mathlib.Core.Path.{refl}
+use Prim.Native.Nat.{_<_, _^_}
 use native.Mathlib.Omega.{arith}
 use Rattle.text.proofs.Numbers.{Partly, number-start, number-fits, number-short, number-next, number-end}
 use borrow.Author.Needs.{needs}
@@ -20,19 +21,15 @@ returns c =
     let loop = c .before .before in
     number-short _ _ _ _ _ _ (loop .loop .inv) (c .if1 .taken)
 
+-- one digit more fits
+room : (c : tie.In-loop Inv-loop μ-loop) → c .before .loop .w < 2 ^ 60
+room c = number-fits _ _ _ _ _ _ (c .before .loop .inv) (c .loop-test .taken) (c .before .before .before .pre)
+
 mul-w : tie.Need-mul-w Inv-loop μ-loop
-mul-w c =
-    let loop-test = c .before .before .before in
-    let loop = loop-test .before in
-    let start = loop .before .before in
-    omega (arith, number-fits _ _ _ _ _ _ (loop .loop .inv) (loop-test .loop-test .taken) (start .pre))
+mul-w c = omega (arith, room (c .before .before .before))
 
 add-w : tie.Need-add-w Inv-loop μ-loop
-add-w c =
-    let loop-test = c .before .before .before in
-    let loop = loop-test .before in
-    let start = loop .before .before in
-    omega (arith, number-fits _ _ _ _ _ _ (loop .loop .inv) (loop-test .loop-test .taken) (start .pre))
+add-w c = omega (arith, room (c .before .before .before))
 
 loop-again : tie.Need-loop-again Inv-loop μ-loop
 loop-again c =

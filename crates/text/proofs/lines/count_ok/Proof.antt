@@ -1,7 +1,6 @@
 -- `text::lines::count_ok` meets its contract. Assumes nothing.
 use mathlib.Core.Path.{refl}
 use Rattle.text.specs.Lines.{countOk}
-use borrow.Author.Needs.{needs}
 use Rattle.text.proofs.lines.count_ok.Statement.{statement}
 use Rattle.text.proofs.lines.count_ok.Tie as tie
 

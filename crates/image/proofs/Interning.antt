@@ -1,8 +1,8 @@
 -- Names interned one after the other: what is left from here is what the whole list was. Assumes nothing.
 use mathlib.Core.Path.{_≡_, refl, sym, ap, ap₂, subst, _∙_}
-use Prim.Native.Nat.{ℕ, zero, suc, _+_, _-_, _*_, _≤_, _<_}
+use Prim.Native.Nat.{ℕ, _+_, _-_, _≤_, _<_}
 use mathlib.Core.Option.{Option, none, some}
-use mathlib.Core.List.{List, [], _∷_}
+use mathlib.Core.List.{List}
 use native.Mathlib.Omega.{arith}
 use lib.ListN.{length, take, drop, set, length-set}
 use Rattle.memory.specs.Lists.{over}
@@ -11,12 +11,12 @@ use Rattle.text.specs.declared.sections.Section.the-variants.{Globals}
 use Rattle.text.specs.declared.names.Named.{Named}
 use Rattle.text.specs.Lines.{linesOf}
 use Rattle.text.specs.Sections.{sectionIn}
-use Rattle.text.specs.Names.{Name, namesOf, nth, nameOf, answerOf, bytesOf}
+use Rattle.text.specs.Names.{Name, namesOf, nameOf, answerOf, bytesOf}
 use Rattle.text.proofs.Indices.{nth-some, nth-none, global-within, names-in, name-short}
 use Rattle.vm.specs.declared.Reply.{Reply}
 use Rattle.vm.specs.Told.{saidOf}
-use Rattle.vm.specs.Machine.{Lent, Machine, Answer, ended, value, done, refused, Called, host, intern, perform}
-use Rattle.image.specs.Runner.{Entered, entersOn, enters}
+use Rattle.vm.specs.Machine.{Machine, Answer, ended, value, done, refused, Called, host, intern, perform}
+use Rattle.image.specs.Runner.{internOn, internAll}
 
 -- a name that was answered
 named-by : (o : Option Name) (global len : ℕ) → answerOf o ≡ Named.At global len → (name : Name) × (o ≡ some name) × (name .global ≡ global) × (length (name .bytes) ≡ len)
@@ -30,21 +30,21 @@ none-by none e = refl
 none-by (some name) e = let z : _≡_ {A = ℕ} 0 1 = cc in absurd (omega arith)
 
 -- where the loop has come to
-pub record Entering (s : List ℕ) (m₀ : List ℕ → Machine) (g₀ : List ℕ) (m : List ℕ → Machine) (g : List ℕ) (i : ℕ) : Type 0 where
-  pub left : (frames : List ℕ) → enters (drop i (namesOf 0 (linesOf s))) (m frames) g ≡ enters (namesOf 0 (linesOf s)) (m₀ frames) g₀
+pub record Interning (s : List ℕ) (m₀ : List ℕ → Machine) (g₀ : List ℕ) (m : List ℕ → Machine) (g : List ℕ) (i : ℕ) : Type 0 where
+  pub left : (frames : List ℕ) → internAll (drop i (namesOf 0 (linesOf s))) (m frames) g ≡ internAll (namesOf 0 (linesOf s)) (m₀ frames) g₀
   pub few : i ≤ length (namesOf 0 (linesOf s))
   pub long : length g ≡ length g₀
 
-pub entering-first : (s : List ℕ) (m : List ℕ → Machine) (g : List ℕ) → Entering s m g m g 0
-entering-first s m g = record { left = λ frames. refl; few = omega arith; long = refl }
+pub interning-first : (s : List ℕ) (m : List ℕ → Machine) (g : List ℕ) → Interning s m g m g 0
+interning-first s m g = record { left = λ frames. refl; few = omega arith; long = refl }
 
-module _ {s : List ℕ} {m₀ : List ℕ → Machine} {g₀ : List ℕ} {m : List ℕ → Machine} {g : List ℕ} {i : ℕ} (e : Entering s m₀ g₀ m g i) where
+module _ {s : List ℕ} {m₀ : List ℕ → Machine} {g₀ : List ℕ} {m : List ℕ → Machine} {g : List ℕ} {i : ℕ} (e : Interning s m₀ g₀ m g i) where
   abbrev names : List Name
   names = namesOf 0 (linesOf s)
 
-  pub entered-all : answerOf (nameOf i s) ≡ Named.Missing → (frames : List ℕ) → record { called = record { answer = done; machine = m frames }; globals = g } ≡ enters names (m₀ frames) g₀
-  unfolding enters
-  entered-all q frames = (rw (nth-none i names (none-by (nameOf i s) q)) at (e .left frames))
+  pub interned-all : answerOf (nameOf i s) ≡ Named.Missing → (frames : List ℕ) → record { called = record { answer = done; machine = m frames }; globals = g } ≡ internAll names (m₀ frames) g₀
+  unfolding internAll
+  interned-all q frames = (rw (nth-none i names (none-by (nameOf i s) q)) at (e .left frames))
 
   module _ {global len : ℕ} (q : answerOf (nameOf i s) ≡ Named.At global len) where
     here : (name : Name) × (nameOf i s ≡ some name) × (name .global ≡ global) × (length (name .bytes) ≡ len)
@@ -77,19 +77,19 @@ module _ {s : List ℕ} {m₀ : List ℕ → Machine} {g₀ : List ℕ} {m : Lis
     abbrev its : List ℕ → Called
     its frames = perform (host (intern (here .0 .bytes))) (m frames)
 
-    turn : (frames : List ℕ) → entersOn (its frames .answer) (its frames) g (here .0 .global) (enters (drop (i + 1) names)) ≡ enters names (m₀ frames) g₀
-    unfolding enters
+    turn : (frames : List ℕ) → internOn (its frames .answer) (its frames) g (here .0 .global) (internAll (drop (i + 1) names)) ≡ internAll names (m₀ frames) g₀
+    unfolding internAll
     turn frames = rw (nth-some i names (here .0) (here .1) .1) at (e .left frames)
 
-    answered : (frames : List ℕ) {a : Answer} → its frames .answer ≡ a → entersOn a (its frames) g (here .0 .global) (enters (drop (i + 1) names)) ≡ enters names (m₀ frames) g₀
-    answered frames p = subst (λ (a : Answer). entersOn a (its frames) g (here .0 .global) (enters (drop (i + 1) names)) ≡ enters names (m₀ frames) g₀) p (turn frames)
+    answered : (frames : List ℕ) {a : Answer} → its frames .answer ≡ a → internOn a (its frames) g (here .0 .global) (internAll (drop (i + 1) names)) ≡ internAll names (m₀ frames) g₀
+    answered frames p = subst (λ (a : Answer). internOn a (its frames) g (here .0 .global) (internAll (drop (i + 1) names)) ≡ internAll names (m₀ frames) g₀) p (turn frames)
 
-    value-on : (frames : List ℕ) (v : ℕ) → its frames .answer ≡ value v → enters (drop (i + 1) names) (its frames .machine) (set g (here .0 .global) v) ≡ enters names (m₀ frames) g₀
-    unfolding entersOn
+    value-on : (frames : List ℕ) (v : ℕ) → its frames .answer ≡ value v → internAll (drop (i + 1) names) (its frames .machine) (set g (here .0 .global) v) ≡ internAll names (m₀ frames) g₀
+    unfolding internOn
     value-on frames v p = answered frames p
 
-    ended-on : (frames : List ℕ) (a : Answer) → its frames .answer ≡ a → ((v : ℕ) → a ≡ value v → ⊥) → record { called = its frames; globals = g } ≡ enters names (m₀ frames) g₀
-    unfolding entersOn
+    ended-on : (frames : List ℕ) (a : Answer) → its frames .answer ≡ a → ((v : ℕ) → a ≡ value v → ⊥) → record { called = its frames; globals = g } ≡ internAll names (m₀ frames) g₀
+    unfolding internOn
     ended-on frames (value v) p n = absurd (n v refl)
     ended-on frames (refused k) p n = answered frames p
     ended-on frames done p n = answered frames p
@@ -103,23 +103,23 @@ module _ {s : List ℕ} {m₀ : List ℕ → Machine} {g₀ : List ℕ} {m : Lis
       call-is : (frames : List ℕ) → call frames ≡ its frames
       call-is frames = ap (λ (x : List ℕ). perform (host (intern x)) (m frames)) (back ∙ bytes-are)
 
-      value-by : (frames : List ℕ) (v : ℕ) (m′ : Machine) → record { answer = value v; machine = m′ } ≡ call frames → enters (drop (i + 1) names) m′ (set g global v) ≡ enters names (m₀ frames) g₀
+      value-by : (frames : List ℕ) (v : ℕ) (m′ : Machine) → record { answer = value v; machine = m′ } ≡ call frames → internAll (drop (i + 1) names) m′ (set g global v) ≡ internAll names (m₀ frames) g₀
       value-by frames v m′ c =
           let is : record { answer = value v; machine = m′ } ≡ its frames = c ∙ call-is frames in
-          ap₂ (λ (x : Machine) (y : ℕ). enters (drop (i + 1) names) x (set g y v)) (ap (λ (x : Called). x .machine) is) (sym (here .2)) ∙ value-on frames v (sym (ap (λ (x : Called). x .answer) is))
+          ap₂ (λ (x : Machine) (y : ℕ). internAll (drop (i + 1) names) x (set g y v)) (ap (λ (x : Called). x .machine) is) (sym (here .2)) ∙ value-on frames v (sym (ap (λ (x : Called). x .answer) is))
 
-      pub entering-next : {r : Reply} {v : ℕ} → r ≡ Reply.Value v → (m′ : List ℕ → Machine) → ((frames : List ℕ) → record { answer = saidOf r; machine = m′ frames } ≡ call frames) → Entering s m₀ g₀ m′ (set g global v) (i + 1)
+      pub interning-next : {r : Reply} {v : ℕ} → r ≡ Reply.Value v → (m′ : List ℕ → Machine) → ((frames : List ℕ) → record { answer = saidOf r; machine = m′ frames } ≡ call frames) → Interning s m₀ g₀ m′ (set g global v) (i + 1)
       unfolding saidOf
-      entering-next {r} {v} is m′ c =
+      interning-next {r} {v} is m′ c =
           record {
             left = λ frames. value-by frames v (m′ frames) (rw is at (c frames));
             few = let k = more-left in omega arith;
             long = length-set g global v ∙ e .long;
           }
 
-      pub entered-some : (x : List ℕ → Called) → ((frames : List ℕ) → x frames ≡ call frames) → ((frames : List ℕ) (v : ℕ) → x frames .answer ≡ value v → ⊥)
-          → (frames : List ℕ) → record { called = x frames; globals = g } ≡ enters names (m₀ frames) g₀
-      entered-some x c n frames =
+      pub interned-some : (x : List ℕ → Called) → ((frames : List ℕ) → x frames ≡ call frames) → ((frames : List ℕ) (v : ℕ) → x frames .answer ≡ value v → ⊥)
+          → (frames : List ℕ) → record { called = x frames; globals = g } ≡ internAll names (m₀ frames) g₀
+      interned-some x c n frames =
           let is : x frames ≡ its frames = c frames ∙ call-is frames in
           ap (λ (y : Called). record { called = y; globals = g }) is ∙ ended-on frames (its frames .answer) refl (λ v z. n frames v (ap (λ (y : Called). y .answer) is ∙ z))
 
