@@ -19,4 +19,5 @@ returns-2 c =
 pub girzhanok-allocate-spec : {M : Type 1} → statement M
 girzhanok-allocate-spec =
     tie.close
-    (tie.spec returns (λ c κs. search needs) (λ c κs. search needs) (λ c κs. search needs) (λ c. search needs) (λ c. search needs) returns-2)
+    (tie.spec returns (λ c κs. search needs) (λ c κs. search needs) (λ c κs. search needs) (λ c. search needs) (λ c. search needs)
+    returns-2)

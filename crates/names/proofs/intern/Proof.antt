@@ -12,10 +12,4 @@ returns c =
 pub intern-spec : {M : Type 1} → statement M
 intern-spec =
     tie.close
-    (tie.spec
-    (λ c κs. search needs)
-    (λ c κs. search needs)
-    (λ c. search needs)
-    (λ c. search needs)
-    (λ c. search needs)
-    returns)
+    (tie.spec (λ c κs. search needs) (λ c κs. search needs) (λ c. search needs) (λ c. search needs) (λ c. search needs) returns)

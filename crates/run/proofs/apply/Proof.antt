@@ -88,38 +88,8 @@ returns-10 c =
 pub apply-spec : {M : Type 1} → statement M
 apply-spec =
     tie.close
-    (tie.spec
-    (λ c. search needs)
-    set-requires
-    (λ c. search needs)
-    (λ c. search needs)
-    (λ c κs. search needs)
-    (λ c. search needs)
-    (λ c κs. search needs)
-    (λ c. search needs)
-    (λ c κs. search needs)
-    (λ c. search needs)
-    (λ c κs. search needs)
-    (λ c. search needs)
-    load-requires
-    (λ c. search needs)
-    (λ c κs. search needs)
-    (λ c. search needs)
-    alloc-requires
-    (λ c. search needs)
-    (λ c. search needs)
-    returns
-    returns-2
-    returns-3
-    (λ c. search needs)
-    returns-4
-    (λ c. search needs)
-    returns-5
-    (λ c. search needs)
-    returns-6
-    (λ c. search needs)
-    returns-7
-    (λ c. search needs)
-    returns-8
-    returns-9
-    returns-10)
+    (tie.spec (λ c. search needs) set-requires (λ c. search needs) (λ c. search needs) (λ c κs. search needs) (λ c. search needs)
+    (λ c κs. search needs) (λ c. search needs) (λ c κs. search needs) (λ c. search needs) (λ c κs. search needs) (λ c. search needs)
+    load-requires (λ c. search needs) (λ c κs. search needs) (λ c. search needs) alloc-requires (λ c. search needs) (λ c. search needs)
+    returns returns-2 returns-3 (λ c. search needs) returns-4 (λ c. search needs) returns-5 (λ c. search needs) returns-6
+    (λ c. search needs) returns-7 (λ c. search needs) returns-8 returns-9 returns-10)

@@ -26,8 +26,4 @@ returns-3 c = rw (c .from-number .ensures .0, c .from-number .ensures .1, c .fro
 pub end-of-spec : {M : Type 1} → statement M
 end-of-spec =
     tie.close
-    (tie.spec
-    from-number-requires
-    returns
-    returns-2
-    returns-3)
+    (tie.spec from-number-requires returns returns-2 returns-3)

@@ -35,14 +35,5 @@ returns-2 c =
 pub load-spec : {M : Type 1} → statement M
 load-spec =
     tie.close
-    (tie.spec
-    reach-requires
-    (λ c. search needs)
-    (λ c. search needs)
-    returns
-    load8-requires
-    (λ c. search needs)
-    (λ c. search needs)
-    (λ c. search needs)
-    (λ c κs. search needs)
-    returns-2)
+    (tie.spec reach-requires (λ c. search needs) (λ c. search needs) returns load8-requires (λ c. search needs) (λ c. search needs)
+    (λ c. search needs) (λ c κs. search needs) returns-2)

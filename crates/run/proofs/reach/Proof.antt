@@ -43,11 +43,4 @@ returns-4 c =
 pub reach-spec : {M : Type 1} → statement M
 reach-spec =
     tie.close
-    (tie.spec
-    returns
-    add-address
-    (λ c κs. search needs)
-    returns-2
-    (λ c. search needs)
-    returns-3
-    returns-4)
+    (tie.spec returns add-address (λ c κs. search needs) returns-2 (λ c. search needs) returns-3 returns-4)

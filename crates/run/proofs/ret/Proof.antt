@@ -22,10 +22,4 @@ returns-2 c =
 pub ret-spec : {M : Type 1} → statement M
 ret-spec =
     tie.close
-    (tie.spec
-    returns
-    (λ c. search needs)
-    (λ c. search needs)
-    (λ c. search needs)
-    (λ c κs. search needs)
-    returns-2)
+    (tie.spec returns (λ c. search needs) (λ c. search needs) (λ c. search needs) (λ c κs. search needs) returns-2)

@@ -68,16 +68,5 @@ returns-3 c =
 pub run-checked-spec : {M : Type 1} → statement M
 run-checked-spec =
     tie.close
-    (tie.spec
-    (λ c κs. search needs)
-    returns
-    (λ c κs. search needs)
-    slice-write-frames
-    (λ c κs. search needs)
-    (λ c. search needs)
-    returns-2
-    go-requires
-    finish-requires
-    same-length-2
-    (λ c. search needs)
-    returns-3)
+    (tie.spec (λ c κs. search needs) returns (λ c κs. search needs) slice-write-frames (λ c κs. search needs) (λ c. search needs) returns-2
+    go-requires finish-requires same-length-2 (λ c. search needs) returns-3)

@@ -35,13 +35,5 @@ returns-2 c =
 pub store-spec : {M : Type 1} → statement M
 store-spec =
     tie.close
-    (tie.spec
-    reach-requires
-    (λ c. search needs)
-    (λ c. search needs)
-    returns
-    store8-requires
-    (λ c. search needs)
-    (λ c κs. search needs)
-    (λ c. search needs)
-    returns-2)
+    (tie.spec reach-requires (λ c. search needs) (λ c. search needs) returns store8-requires (λ c. search needs) (λ c κs. search needs)
+    (λ c. search needs) returns-2)

@@ -13,6 +13,4 @@ returns-2 c = rw (c .if1 .left) refl
 pub stored-pc-spec : {M : Type 1} → statement M
 stored-pc-spec =
     tie.close
-    (tie.spec
-    returns
-    returns-2)
+    (tie.spec returns returns-2)

@@ -61,5 +61,5 @@ returns-2 c =
 pub boxed-spec : {M : Type 1} → statement M
 boxed-spec =
     tie.close
-    (tie.spec (λ c κs. search needs) (λ c κs. search needs) (λ c. search needs) (λ c. search needs) (λ c. search needs) returns sub-at store8-requires
-    add-store8 store8-requires-2 (λ c. search needs) returns-2)
+    (tie.spec (λ c κs. search needs) (λ c κs. search needs) (λ c. search needs) (λ c. search needs) (λ c. search needs) returns sub-at
+    store8-requires add-store8 store8-requires-2 (λ c. search needs) returns-2)

@@ -11,6 +11,5 @@ frame-underflow c = (last-anomaly _ (c .before .pre) (c .match .rest), refl, ref
 pub from-number-spec : {M : Type 1} → statement M
 from-number-spec =
     tie.close
-    (tie.spec
-    (λ c. search needs) (λ c. search needs) (λ c. search needs) (λ c. search needs) (λ c. search needs) (λ c. search needs)
+    (tie.spec (λ c. search needs) (λ c. search needs) (λ c. search needs) (λ c. search needs) (λ c. search needs) (λ c. search needs)
     frame-underflow)

@@ -28,5 +28,5 @@ returns-2 c =
 pub alloc-slow-spec : {M : Type 1} → statement M
 alloc-slow-spec =
     tie.close
-    (tie.spec (λ c κs. search needs) (λ c. search needs) (λ c. search needs) (λ c. search needs) returns alloc-fast-requires (λ c. search needs)
-    returns-2)
+    (tie.spec (λ c κs. search needs) (λ c. search needs) (λ c. search needs) (λ c. search needs) returns alloc-fast-requires
+    (λ c. search needs) returns-2)

@@ -19,7 +19,4 @@ returns-2 c = no-value _ (c .match .keys2) _
 pub put-value-spec : {M : Type 1} → statement M
 put-value-spec =
     tie.close
-    (tie.spec
-    (λ c. search needs)
-    returns
-    returns-2)
+    (tie.spec (λ c. search needs) returns returns-2)

@@ -77,23 +77,7 @@ returns-2 c =
 pub intern-spec : {M : Type 1} → statement M
 intern-spec =
     tie.close
-    (tie.spec
-    (λ c κs. search needs)
-    (λ c. search needs)
-    (λ c κs. search needs)
-    (λ c. search needs)
-    (λ c κs. search needs)
-    slice-reshare-prefix-get
-    slice-aggregate-get
-    slice-reshare-prefix-get-2
-    slice-aggregate-get-2
-    (λ c κs. search needs)
-    known-requires
-    (λ c. search needs)
-    (λ c. search needs)
-    (λ c. search needs)
-    returns
-    (λ c. search needs)
-    (λ c. search needs)
-    (λ c. search needs)
+    (tie.spec (λ c κs. search needs) (λ c. search needs) (λ c κs. search needs) (λ c. search needs) (λ c κs. search needs)
+    slice-reshare-prefix-get slice-aggregate-get slice-reshare-prefix-get-2 slice-aggregate-get-2 (λ c κs. search needs) known-requires
+    (λ c. search needs) (λ c. search needs) (λ c. search needs) returns (λ c. search needs) (λ c. search needs) (λ c. search needs)
     returns-2)

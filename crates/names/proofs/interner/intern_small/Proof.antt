@@ -117,33 +117,8 @@ returns-3 c =
 pub intern-small-spec : {M : Type 1} → statement M
 intern-small-spec =
     tie.close
-    (tie.spec
-    (λ c κs. search needs)
-    (λ c. search needs)
-    (λ c κs. search needs)
-    (λ c. search needs)
-    (λ c κs. search needs)
-    (λ c κs. search needs)
-    (λ c. search needs)
-    (λ c. search needs)
-    (λ c. search needs)
-    returns
-    (λ c κs. search needs)
-    slice-reshare-prefix-get-small
-    slice-aggregate-get-small
-    slice-reshare-prefix-get-small-2
-    slice-aggregate-get-small-2
-    get-small-requires
-    (λ c. search needs)
-    (λ c κs. search needs)
-    array-share-prefix-bytes
-    slice-aggregate-known
-    known-requires
-    (λ c. search needs)
-    (λ c. search needs)
-    (λ c. search needs)
-    returns-2
-    (λ c. search needs)
-    (λ c. search needs)
-    (λ c. search needs)
-    returns-3)
+    (tie.spec (λ c κs. search needs) (λ c. search needs) (λ c κs. search needs) (λ c. search needs) (λ c κs. search needs)
+    (λ c κs. search needs) (λ c. search needs) (λ c. search needs) (λ c. search needs) returns (λ c κs. search needs)
+    slice-reshare-prefix-get-small slice-aggregate-get-small slice-reshare-prefix-get-small-2 slice-aggregate-get-small-2 get-small-requires
+    (λ c. search needs) (λ c κs. search needs) array-share-prefix-bytes slice-aggregate-known known-requires (λ c. search needs)
+    (λ c. search needs) (λ c. search needs) returns-2 (λ c. search needs) (λ c. search needs) (λ c. search needs) returns-3)

@@ -59,5 +59,6 @@ returns-2 c =
 pub store-spec : {M : Type 1} → statement M
 store-spec =
     tie.close
-    (tie.spec (λ c κs. search needs) (λ c κs. search needs) (λ c κs. search needs) (λ c. search needs) (λ c. search needs) (λ c. search needs) returns
-    sub-at sub-write-payload part-write-payload-start (λ c. search needs) write-payload-requires (λ c. search needs) returns-2)
+    (tie.spec (λ c κs. search needs) (λ c κs. search needs) (λ c κs. search needs) (λ c. search needs) (λ c. search needs)
+    (λ c. search needs) returns sub-at sub-write-payload part-write-payload-start (λ c. search needs) write-payload-requires
+    (λ c. search needs) returns-2)

@@ -57,5 +57,5 @@ returns-2 c =
 pub find-spec : {M : Type 1} → statement M
 find-spec =
     tie.close
-    (tie.spec starts-at-requires (λ c. search needs) (λ c. search needs) (λ c κs. search needs) (λ c. search needs) shared-slice-read-if1 sub-if1
-    add-t16 mul-t18 shared-slice-read-t20 returns returns-2)
+    (tie.spec starts-at-requires (λ c. search needs) (λ c. search needs) (λ c κs. search needs) (λ c. search needs) shared-slice-read-if1
+    sub-if1 add-t16 mul-t18 shared-slice-read-t20 returns returns-2)

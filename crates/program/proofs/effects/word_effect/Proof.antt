@@ -30,11 +30,4 @@ returns-2 c =
 pub word-effect-spec : {M : Type 1} → statement M
 word-effect-spec =
     tie.close
-    (tie.spec
-    (λ c κs. search needs)
-    (λ c. search needs)
-    (λ c. search needs)
-    (λ c κs. search needs)
-    returns
-    effect-of-requires
-    returns-2)
+    (tie.spec (λ c κs. search needs) (λ c. search needs) (λ c. search needs) (λ c κs. search needs) returns effect-of-requires returns-2)

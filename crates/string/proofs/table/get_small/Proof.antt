@@ -51,5 +51,5 @@ returns-4 c =
 pub get-small-spec : {M : Type 1} → statement M
 get-small-spec =
     tie.close
-    (tie.spec Inv-loop μ-loop returns (λ c. search needs) loop-holds (λ c. search needs) (λ c. search needs) returns-2 (λ c κs. search needs)
-    returns-3 (λ c. search needs) (λ c. search needs) (λ c. search needs) loop-again returns-4)
+    (tie.spec Inv-loop μ-loop returns (λ c. search needs) loop-holds (λ c. search needs) (λ c. search needs) returns-2
+    (λ c κs. search needs) returns-3 (λ c. search needs) (λ c. search needs) (λ c. search needs) loop-again returns-4)

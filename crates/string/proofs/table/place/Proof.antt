@@ -52,5 +52,6 @@ returns-3 c =
 pub place-spec : {M : Type 1} → statement M
 place-spec =
     tie.close
-    (tie.spec Inv-loop μ-loop returns (λ c. search needs) loop-holds (λ c. search needs) (λ c. search needs) (λ c. search needs) (λ c. search needs)
-    (λ c. search needs) returns-2 (λ c. search needs) (λ c. search needs) (λ c. search needs) loop-again (λ c. search needs) returns-3)
+    (tie.spec Inv-loop μ-loop returns (λ c. search needs) loop-holds (λ c. search needs) (λ c. search needs) (λ c. search needs)
+    (λ c. search needs) (λ c. search needs) returns-2 (λ c. search needs) (λ c. search needs) (λ c. search needs) loop-again
+    (λ c. search needs) returns-3)

@@ -23,5 +23,4 @@ returns-4 c = cc (bottom-end (c .before .before .as-f64 .result) (c .before .if1
 pub f64-to-int-spec : {M : Type 1} → statement M
 f64-to-int-spec =
     tie.close
-    (tie.spec (λ c κs. search needs) truncating-f64-to-i64-requires (λ c κs. search needs)
-    returns returns-2 returns-3 returns-4)
+    (tie.spec (λ c κs. search needs) truncating-f64-to-i64-requires (λ c κs. search needs) returns returns-2 returns-3 returns-4)

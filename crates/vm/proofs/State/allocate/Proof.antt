@@ -73,5 +73,6 @@ returns-4 c =
 pub allocate-spec : {M : Type 1} → statement M
 allocate-spec =
     tie.close
-    (tie.spec (λ c κs. search needs) (λ c κs. search needs) returns (λ c κs. search needs) (λ c κs. search needs) returns-2 (λ c κs. search needs)
-    (λ c κs. search needs) returns-3 from-number-requires (λ c κs. search needs) alloc-requires (λ c κs. search needs) (λ c. search needs) returns-4)
+    (tie.spec (λ c κs. search needs) (λ c κs. search needs) returns (λ c κs. search needs) (λ c κs. search needs) returns-2
+    (λ c κs. search needs) (λ c κs. search needs) returns-3 from-number-requires (λ c κs. search needs) alloc-requires
+    (λ c κs. search needs) (λ c. search needs) returns-4)

@@ -65,5 +65,5 @@ returns-4 c =
 pub new-option-spec : {M : Type 1} → statement M
 new-option-spec =
     tie.close
-    (tie.spec (λ c κs. search needs) (λ c κs. search needs) returns (λ c κs. search needs) (λ c κs. search needs) returns-2 (λ c. search needs)
-    add-t12 (λ c. search needs) boxed-requires (λ c κs. search needs) returns-3 (λ c. search needs) returns-4)
+    (tie.spec (λ c κs. search needs) (λ c κs. search needs) returns (λ c κs. search needs) (λ c κs. search needs) returns-2
+    (λ c. search needs) add-t12 (λ c. search needs) boxed-requires (λ c κs. search needs) returns-3 (λ c. search needs) returns-4)

@@ -28,5 +28,5 @@ returns-4 c =
 pub frames-belong-spec : {M : Type 1} → statement M
 frames-belong-spec =
     tie.close
-    (tie.spec returns returns-2 returns-3 (λ c. search needs) (λ c. search needs) (λ c. search needs) (λ c. search needs) (λ c κs. search needs)
-    returns-4)
+    (tie.spec returns returns-2 returns-3 (λ c. search needs) (λ c. search needs) (λ c. search needs) (λ c. search needs)
+    (λ c κs. search needs) returns-4)

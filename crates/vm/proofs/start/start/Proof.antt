@@ -50,5 +50,6 @@ returns-2 c =
 pub start-spec : {M : Type 1} → statement M
 start-spec =
     tie.close
-    (tie.spec (λ c κs. search needs) (λ c κs. search needs) (λ c κs. search needs) (λ c κs. search needs) (λ c. search needs) (λ c κs. search needs)
-    from-number-requires (λ c κs. search needs) (λ c. search needs) begin-requires returns (λ c. search needs) (λ c. search needs) returns-2)
+    (tie.spec (λ c κs. search needs) (λ c κs. search needs) (λ c κs. search needs) (λ c κs. search needs) (λ c. search needs)
+    (λ c κs. search needs) from-number-requires (λ c κs. search needs) (λ c. search needs) begin-requires returns (λ c. search needs)
+    (λ c. search needs) returns-2)
