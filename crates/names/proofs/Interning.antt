@@ -20,7 +20,7 @@ use Rattle.memory.proofs.Over.{over-is, over-take, over-write, take-over, tail-
 use Rattle.memory.proofs.Bytes.{length-bytesOf}
 use Rattle.anomaly.specs.declared.Refusal.{Refusal}
 use Rattle.anomaly.specs.Table.{numberOfRefusal}
-use Rattle.anomaly.proofs.Numbers.{both}
+use Rattle.memory.proofs.Tests.{both}
 use Rattle.string.specs.declared.table.StrTable.{StrTable}
 use Rattle.string.specs.declared.table.Probe.{Probe}
 use Rattle.string.proofs.table.Probe as probes

@@ -11,7 +11,7 @@ use lib.Seq.{take-set-lt}
 use lib.Dec.{leb, ltb, eqb}
 use borrow.Author.Tests.{leb-true, le-leb, lt-ltb, le-ltb, eqb-true, eqb-false, leb-false}
 use Rattle.anomaly.specs.Table.{isAnomaly}
-use Rattle.anomaly.proofs.Numbers.{both}
+use Rattle.memory.proofs.Tests.{both}
 use Rattle.gc.specs.Lent.{Sound}
 use Rattle.gc.specs.Lent as Heap
 use Rattle.gc.proofs.Soundness as Soundness

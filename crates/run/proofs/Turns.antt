@@ -14,7 +14,8 @@ use Rattle.memory.specs.Bytes.{bytesOf, number, valueOf}
 use Rattle.memory.specs.Lists.{over, write, part}
 use Rattle.memory.proofs.Over.{over-take, over-more, over-write, length-write}
 use Rattle.memory.proofs.Bytes.{length-bytesOf}
-use Rattle.anomaly.proofs.Numbers.{both, either}
+use Rattle.memory.proofs.Tests.{both}
+use Rattle.anomaly.proofs.Numbers.{either}
 use Rattle.string.specs.declared.table.StrTable.{StrTable}
 use Rattle.string.specs.Payload.{reaches}
 use Rattle.gc.specs.declared.Gc.{Gc}

@@ -8,7 +8,7 @@ use native.Mathlib.Omega.{arith}
 use lib.Dec.{leb, eqb}
 use borrow.Author.Tests.{leb-true, le-leb, lt-leb}
 use Rattle.memory.proofs.Tests.{leb-minus}
-use Rattle.anomaly.proofs.Numbers.{both}
+use Rattle.memory.proofs.Tests.{both}
 use Rattle.gc.specs.Lent.{pageSize}
 use Rattle.vm.specs.declared.State.{State}
 use Rattle.program.specs.Image.{below}

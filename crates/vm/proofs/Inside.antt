@@ -9,6 +9,7 @@ use native.Mathlib.Nat.{not-suc-le-zero, le-of-suc-le-suc}
 use lib.ListN.{length, getD, take, drop}
 use lib.Dec.{eqb, ltb, leb}
 use borrow.Author.Tests.{ltb-true, lt-ltb, le-leb, eqb-true, eqb-false}
+use Rattle.memory.proofs.Tests.{both}
 use Rattle.anomaly.specs.Table.{isAnomaly}
 use Rattle.value.specs.declared.int.Divided.{Divided}
 use Rattle.value.specs.declared.int.Divided.the-variants.{Exact, ByZero, Overflow}
@@ -72,15 +73,7 @@ below-drop n (suc a) [] h = h
 below-drop n (suc a) (x ∷ xs) h = below-drop n a xs (rest n x xs h)
   where
     rest : (n x : ℕ) (xs : List ℕ) → below n (x ∷ xs) ≡ true → below n xs ≡ true
-    rest n x xs h = second (ltb x n) _ (unfold below in h)
-      where
-        second : (a b : Bool) → (a && b) ≡ true → b ≡ true
-        second true b e = e
-        second false b e = cc
-
-both : (a b : Bool) → (a && b) ≡ true → (a ≡ true) × (b ≡ true)
-both true b e = (refl, e)
-both false b e = (cc, cc)
+    rest n x xs h = both (ltb x n) (below n xs) (unfold below in h) .1
 
 below-take : (n m : ℕ) (xs : List ℕ) → below n xs ≡ true → below n (take m xs) ≡ true
 unfolding below

@@ -8,7 +8,7 @@ use native.Mathlib.Omega.{arith}
 use lib.ListN.{length, set}
 use Rattle.memory.specs.Lists.{over}
 use Rattle.anomaly.specs.Table.{isRefusal}
-use Rattle.anomaly.proofs.Numbers.{both}
+use Rattle.memory.proofs.Tests.{both}
 use Rattle.gc.specs.declared.Gc.{Gc}
 use Rattle.gc.specs.declared.Alloc.{Alloc}
 use Rattle.gc.specs.Lent.{pageSize, Outcome, outcome, numbersOf}

@@ -6,7 +6,7 @@ use mathlib.Core.Option.{Option, none, some}
 use mathlib.Core.List.{[], _∷_}
 use lib.ListN.{length, replicate}
 use Rattle.memory.proofs.Over.{length-write}
-use Rattle.anomaly.proofs.Numbers.{both}
+use Rattle.memory.proofs.Tests.{both}
 use Rattle.gc.specs.Pages.{gapOf, holds, block, fitted, allocated}
 use Rattle.gc.specs.Lent.{pageSize, pagesOf, numbersOf}
 use Rattle.vm.specs.Core.{Core, used, setFrames, setLand, setPages, setBytes}
