@@ -115,6 +115,12 @@ says-as before after r t u e h = rw (← e) h
 
 -- ---- the text
 
+pub nothing-said : (r : Reply) → OneOf (0 ∷ 1 ∷ []) (tagOf replies.the-type r) → replyText (saidOf r) ≡ []
+unfolding saidOf replyText
+nothing-said (Reply.Value v) is = refl
+nothing-said Reply.Done is = refl
+nothing-said (Reply.Refused why) is = absurd (miss (0 ∷ 1 ∷ []) 2 tt is)
+
 -- the tags of an end: Halt 0, the budget 1, stopped 2, refused 3
 pub run-reported : (end : End) → OneOf (0 ∷ 1 ∷ 2 ∷ []) (tagOf ends.the-type end) → (s : State) → runText (answerOf end) s ≡ reportOf (summaryOf (numberOfEnd end) (pcOfEnd end) (stepsOfEnd end) s) (s .regs)
 unfolding answerOf runText

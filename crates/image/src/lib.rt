@@ -106,11 +106,10 @@ fn put_reply(out: &mut [u8], reply: Reply) -> usize
     requires { ⌜ longest ≤ length (now out) ⌝ }
     ensures { λ r. ⌜ WritesText (now (out .entry)) (replyText (saidOf reply)) (now (out .exit)) r ⌝ }
 {
-    match reply {
-        Reply::Refused(why) => report::put_refusal(out, 0, why.number()),
-        Reply::Value(_) => 0,
-        Reply::Done => 0,
-    }
+    let Reply::Refused(why) = reply else {
+        return 0;
+    };
+    report::put_refusal(out, 0, why.number())
 }
 
 // An image in parts that are as long as its sections, and buffers as the header asks for.

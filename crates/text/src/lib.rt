@@ -10,6 +10,9 @@ pub mod names;
 pub mod sections;
 
 use anomaly::Refusal;
+pub use digits::all_digits;
+pub use digits::number;
+pub use lines::line_end;
 
 // The longest text.
 pub const MAX_LEN: usize = 65536;

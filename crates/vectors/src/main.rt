@@ -11,11 +11,18 @@ ghost use lib.ListN.{length};
 use libc::STDIN_FILENO;
 use libc::STDOUT_FILENO;
 use report::LONGEST;
+use text::all_digits;
+use text::line_end;
+use text::number;
 
-// Where a case's line has the two lengths and the name.
+// Where a case's line has the two lengths and the name, and how many digits the lengths have.
 const IMAGE_AT: usize = 9;
 
+const IMAGE_DIGITS: usize = 5;
+
 const ANSWER_AT: usize = 15;
+
+const ANSWER_DIGITS: usize = 3;
 
 const NAME_AT: usize = 19;
 
@@ -35,11 +42,6 @@ struct Counts {
 struct Next {
     at: usize,
     counts: Counts,
-}
-
-enum Length {
-    Is(usize),
-    Malformed,
 }
 
 impl Tally {
@@ -85,51 +87,6 @@ impl Tally {
     fn is_none(self) -> bool {
         self.agree == 0 && self.differ == 0
     }
-}
-
-// 16 and above: no lower-case hexadecimal digit.
-fn digit(byte: u8) -> u8 {
-    if byte >= b'0' && byte <= b'9' {
-        byte - b'0'
-    } else if byte >= b'a' && byte <= b'f' {
-        byte - 87
-    } else {
-        16
-    }
-}
-
-fn wide(byte: u8) -> usize {
-    byte as usize
-}
-
-// The length whose digits stand from `from` up to `to`.
-fn digits(line: &[u8], from: usize, to: usize) -> Length {
-    let mut n: usize = 0;
-    let mut i = from;
-    while i < to {
-        if i >= line.len() {
-            return Length::Malformed;
-        }
-        if n >= 65536 {
-            return Length::Malformed;
-        }
-        let d = wide(digit(line[i]));
-        if d > 15 {
-            return Length::Malformed;
-        }
-        n = n * 16 + d;
-        i += 1;
-    }
-    Length::Is(n)
-}
-
-// The place of the first line feed from `at` on, or the end.
-fn line_end(all: &[u8], at: usize) -> usize {
-    let mut i = at;
-    while i < all.len() && all[i] != b'\n' {
-        i += 1;
-    }
-    i
 }
 
 fn is_same(out: &[u8; LONGEST], n: usize, stored: &[u8]) -> bool {
@@ -223,12 +180,17 @@ fn malformed(counts: Counts) -> Next {
 
 // A case whose image begins at `at`.
 fn case(all: &[u8], line: &[u8], at: usize, counts: Counts) -> Next {
-    let Length::Is(n) = digits(line, IMAGE_AT, ANSWER_AT - 1) else {
+    if line.len() < NAME_AT {
         return malformed(counts);
-    };
-    let Length::Is(m) = digits(line, ANSWER_AT, NAME_AT - 1) else {
+    }
+    if !all_digits(&line[IMAGE_AT..IMAGE_AT + IMAGE_DIGITS]) {
         return malformed(counts);
-    };
+    }
+    if !all_digits(&line[ANSWER_AT..ANSWER_AT + ANSWER_DIGITS]) {
+        return malformed(counts);
+    }
+    let n = number(line, IMAGE_AT, IMAGE_DIGITS) as usize;
+    let m = number(line, ANSWER_AT, ANSWER_DIGITS) as usize;
     if at > all.len() {
         return malformed(counts);
     }
@@ -251,11 +213,11 @@ fn case(all: &[u8], line: &[u8], at: usize, counts: Counts) -> Next {
 }
 
 fn record(all: &[u8], at: usize, counts: Counts) -> Next {
-    let end = line_end(all, at);
-    if end >= all.len() {
+    if at > all.len() {
         return malformed(counts);
     }
-    if at > end {
+    let end = line_end(all, at);
+    if end >= all.len() {
         return malformed(counts);
     }
     let line = &all[at..end];
