@@ -15,11 +15,5 @@ returns c =
 pub put-run-spec : {M : Type 1} → statement M
 put-run-spec =
     tie.close
-    (tie.spec
-    (λ c κs. search needs)
-    (λ c κs. search needs)
-    (λ c κs. search needs)
-    (λ c. search needs)
-    (λ c κs. search needs)
-    (λ c. search needs)
-    returns)
+    (tie.spec (λ c κs. search needs) (λ c κs. search needs) (λ c κs. search needs) (λ c. search needs) (λ c κs. search needs)
+    (λ c. search needs) returns)

@@ -75,36 +75,8 @@ returns-3 c =
 pub rate-spec : {M : Type 1} → statement M
 rate-spec =
     tie.close
-    (tie.spec
-    (λ c κs. search needs)
-    (λ c. search needs)
-    put-reply-requires
-    (λ c. search needs)
-    (λ c. search needs)
-    (λ c. search needs)
-    (λ c. search needs)
-    (λ c. search needs)
-    (λ c. search needs)
-    returns
-    intern-names-requires
-    (λ c. search needs)
-    put-reply-requires-2
-    (λ c. search needs)
-    (λ c. search needs)
-    (λ c. search needs)
-    (λ c. search needs)
-    (λ c. search needs)
-    (λ c. search needs)
-    (λ c. search needs)
-    returns-2
-    cast-budget
-    (λ c κs. search needs)
-    put-ran-requires
-    same-length-14
-    same-length-15
-    same-length-16
-    (λ c. search needs)
-    (λ c. search needs)
-    (λ c. search needs)
-    (λ c. search needs)
-    returns-3)
+    (tie.spec (λ c κs. search needs) (λ c. search needs) put-reply-requires (λ c. search needs) (λ c. search needs) (λ c. search needs)
+    (λ c. search needs) (λ c. search needs) (λ c. search needs) returns intern-names-requires (λ c. search needs) put-reply-requires-2
+    (λ c. search needs) (λ c. search needs) (λ c. search needs) (λ c. search needs) (λ c. search needs) (λ c. search needs)
+    (λ c. search needs) returns-2 cast-budget (λ c κs. search needs) put-ran-requires same-length-14 same-length-15 same-length-16
+    (λ c. search needs) (λ c. search needs) (λ c. search needs) (λ c. search needs) returns-3)

@@ -46,5 +46,5 @@ returns-2 c =
 pub number-spec : {M : Type 1} → statement M
 number-spec =
     tie.close
-    (tie.spec Inv-loop μ-loop loop-holds returns (λ c. search needs) (λ c κs. search needs) mul-w add-w (λ c. search needs) (λ c. search needs)
-    (λ c. search needs) loop-again returns-2)
+    (tie.spec Inv-loop μ-loop loop-holds returns (λ c. search needs) (λ c κs. search needs) mul-w add-w (λ c. search needs)
+    (λ c. search needs) (λ c. search needs) loop-again returns-2)

@@ -72,6 +72,6 @@ returns-3 c =
 pub find-spec : {M : Type 1} → statement M
 find-spec =
     tie.close
-    (tie.spec Inv-loop μ-loop loop-holds line-end-requires returns (λ c. search needs) (λ c. search needs) (λ c. search needs) (λ c κs. search needs)
-    (λ c κs. search needs) returns-2 (λ c κs. search needs) sub-left (λ c κs. search needs) (λ c. search needs) add-globals-2 (λ c. search needs)
-    (λ c. search needs) loop-again returns-3)
+    (tie.spec Inv-loop μ-loop loop-holds line-end-requires returns (λ c. search needs) (λ c. search needs) (λ c. search needs)
+    (λ c κs. search needs) (λ c κs. search needs) returns-2 (λ c κs. search needs) sub-left (λ c κs. search needs) (λ c. search needs)
+    add-globals-2 (λ c. search needs) (λ c. search needs) loop-again returns-3)

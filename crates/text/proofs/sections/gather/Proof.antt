@@ -86,5 +86,6 @@ pub gather-spec : {M : Type 1} → statement M
 gather-spec =
     tie.close
     (tie.spec Inv-loop μ-loop loop-holds line-end-requires same-length returns (λ c. search needs) (λ c. search needs) (λ c. search needs)
-    (λ c κs. search needs) (λ c κs. search needs) (λ c. search needs) (λ c. search needs) (λ c. search needs) (λ c κs. search needs) add-targets
-    (λ c κs. search needs) add-values add-line-requires (λ c. search needs) (λ c. search needs) loop-again same-length-2 returns-2)
+    (λ c κs. search needs) (λ c κs. search needs) (λ c. search needs) (λ c. search needs) (λ c. search needs) (λ c κs. search needs)
+    add-targets (λ c κs. search needs) add-values add-line-requires (λ c. search needs) (λ c. search needs) loop-again same-length-2
+    returns-2)

@@ -50,5 +50,5 @@ returns c =
 pub put-entries-spec : {M : Type 1} → statement M
 put-entries-spec =
     tie.close
-    (tie.spec Inv-loop μ-loop (λ c κs. search needs) loop-holds (λ c κs. search needs) put-requires add-at (λ c. search needs) (λ c. search needs)
-    loop-again same-length returns)
+    (tie.spec Inv-loop μ-loop (λ c κs. search needs) loop-holds (λ c κs. search needs) put-requires add-at (λ c. search needs)
+    (λ c. search needs) loop-again same-length returns)
