@@ -27,8 +27,8 @@ fn images() -> Vec<Vec<u8>> {
 }
 
 /// Which opcodes an image completes, asked one step at a time.
-fn done(input: &[u8]) -> [bool; 61] {
-    let mut done = [false; 61];
+fn done(input: &[u8]) -> [bool; ROWS.len()] {
+    let mut done = [false; ROWS.len()];
     let Some(case) = text::case(input) else { return done };
     let mut model = Model::start(case.lent, &case.images[0]).unwrap();
     let (run, names) = case.calls.split_last().unwrap();
@@ -53,7 +53,7 @@ fn done(input: &[u8]) -> [bool; 61] {
 fn each_instruction_is_done_in_three_images() {
     let images = images();
     assert!(images.len() > 1000);
-    let mut counts = [0; 61];
+    let mut counts = [0; ROWS.len()];
     for image in images {
         for (count, done) in counts.iter_mut().zip(done(&image)) {
             *count += usize::from(done);
