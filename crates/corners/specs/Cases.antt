@@ -1,13 +1,11 @@
 -- Each case marked (P) in document 01, and its worked image, as rows of one table, and the one fact, by computation, that all rows hold. What
 -- speaks of the whole machine goes through its own start, calls and run. Assumes nothing.
 use mathlib.Core.Path.{_≡_, refl}
-use mathlib.Core.Bool.{Bool, true, false, cond, not, _&&_, _||_}
-use mathlib.Core.Option.{Option, none, some}
-use mathlib.Core.List.{List, [], _∷_, _++_}
+use mathlib.Core.Bool.{true}
+use mathlib.Core.Option.{none}
+use mathlib.Core.List.{List, [], _∷_}
 use Prim.Native.Nat.{ℕ, zero, suc, _+_, _-_, _*_, _^_}
-use lib.ListN.{length, getD, replicate, take, drop}
-use lib.Bits.{bitAnd, bitXor}
-use lib.Ieee as Ieee
+use lib.ListN.{getD, replicate, take, drop}
 use lib.Ieee.{isNan, ofBits, toBits, ofInt, toSigned}
 use Rattle.memory.specs.Bytes.{bytesOf, valueOf}
 use Rattle.memory.specs.Lists.{over, write, same}
@@ -35,7 +33,7 @@ use Rattle.program.specs.Image.{Image, Tables, startOf, entriesOf, counts, risi
 use Rattle.program.specs.Effect.{divided, jumpIf, within, slot, switched, effectOf, wordEffect}
 use Rattle.vm.specs.Run.{provided, forward, addressed, loaded, stored8, returned, took, apply, fetched, unless, limited, step, after, go, root, entered, stored}
 use Rattle.vm.specs.Names as Names
-use Rattle.vm.specs.Machine.{Lent, Machine, sizes, landOf, view, withPages, withNames, traced, withFrames, withRegs, Host, allocate, option, intern, internSmall, Call, run, light, host, Answer, ended, value, done, refused, Called, ran, idle, runs, hosted, lightly, laid, runLeaves, hostLeaves, granted, hostCall, runCall, act, framesOk, heapOk, slotsOk, returnsOk, framesBelong, pagesBelong, namesBelong, smallOk, tests, tried, perform, Started, declined, begun, firstPage, firstLand, blank, begin, starts, start}
+use Rattle.vm.specs.Machine.{Lent, Machine, sizes, landOf, view, withPages, withNames, traced, withFrames, withRegs, allocate, option, intern, Call, run, host, Answer, ended, value, done, refused, ran, idle, runs, hosted, lightly, laid, runLeaves, hostLeaves, granted, hostCall, runCall, act, framesOk, heapOk, slotsOk, returnsOk, framesBelong, pagesBelong, namesBelong, smallOk, tests, tried, perform, Started, declined, begun, firstPage, firstLand, blank, begin, starts, start}
 
 -- ---- images, buffers, and what is read off
 

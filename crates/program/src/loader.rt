@@ -1,6 +1,5 @@
 // What a start and every run refuse of an image: the loader's tests.
 ghost use mathlib.Core.Path.{_≡_};
-ghost use lib.ListN.{length, getD};
 ghost use Rattle.program.specs.Image.{tablesOf, imageOf, rising, tablesOk, imageOk, endsInHalt, below, wordTests, imageTests, failing, verdict};
 use anomaly::Refusal;
 use op::Checked;

@@ -2,7 +2,6 @@
 ghost use mathlib.Core.Path.{_≡_};
 ghost use Rattle.vm.specs.Machine.{Lent, framesOk, heapOk, slotsOk, framesBelong};
 ghost use Rattle.vm.specs.declared.State.{State};
-ghost use Rattle.string.specs.Sound.{slotCount};
 use gc::PAGE_SIZE;
 use program::loader;
 

@@ -1,5 +1,5 @@
 -- `run::alloc` meets its contract. Assumes nothing.
-use mathlib.Core.Path.{_≡_, refl, sym, _∙_}
+use mathlib.Core.Path.{sym}
 use Rattle.run.proofs.Turns.{turn-no-block, turn-block}
 use borrow.Author.Needs.{needs}
 use Rattle.run.proofs.alloc.Statement.{statement}

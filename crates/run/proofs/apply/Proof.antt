@@ -1,5 +1,5 @@
 -- `run::apply` meets its contract. Assumes nothing.
-use mathlib.Core.Path.{_≡_, refl, sym}
+use mathlib.Core.Path.{sym}
 use Rattle.run.proofs.Turns.{turn-skip, turn-goto, turn-stop, turn-halt}
 use borrow.Author.Needs.{needs}
 use Rattle.run.proofs.apply.Statement.{statement}

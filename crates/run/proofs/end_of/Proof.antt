@@ -1,8 +1,7 @@
 -- `run::end_of` meets its contract. Assumes nothing.
-use mathlib.Core.Path.{_≡_, refl}
+use mathlib.Core.Path.{refl}
 use Rattle.vm.specs.Told.{answerOf}
 use Rattle.run.proofs.Loops.{anomaly-left}
-use borrow.Author.Needs.{needs}
 use Rattle.run.proofs.end_of.Statement.{statement}
 use Rattle.run.proofs.end_of.Tie as tie
 

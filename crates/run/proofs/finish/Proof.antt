@@ -1,5 +1,5 @@
 -- `run::finish` meets its contract. Assumes nothing.
-use mathlib.Core.Path.{_≡_, refl}
+use mathlib.Core.Path.{refl}
 use borrow.Author.Needs.{needs}
 use Rattle.run.proofs.finish.Statement.{statement}
 use Rattle.run.proofs.finish.Tie as tie

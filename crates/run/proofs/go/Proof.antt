@@ -1,5 +1,4 @@
 -- `run::go` meets its contract. Assumes nothing.
-use mathlib.Core.Path.{_≡_, refl, sym, _∙_}
 use Prim.Native.Nat.{_-_}
 use native.Mathlib.Omega.{arith}
 use Rattle.program.specs.Image.{tablesOf, imageOf}

@@ -1,5 +1,5 @@
 -- `run::load` meets its contract. Assumes nothing.
-use mathlib.Core.Path.{_≡_, refl, sym, _∙_}
+use mathlib.Core.Path.{sym, _∙_}
 use native.Mathlib.Omega.{arith}
 use Rattle.run.proofs.Turns.{place-room, turn-load-outside, turn-load}
 use borrow.Author.Needs.{needs}

@@ -1,5 +1,4 @@
 -- `run::reach` meets its contract. Assumes nothing.
-use mathlib.Core.Path.{_≡_, refl, sym, _∙_}
 use mathlib.Core.Bool.{true, false}
 use native.Mathlib.Omega.{arith}
 use Rattle.run.proofs.Turns.{one-high, both-low, place-high, place-past, place-is}

@@ -1,5 +1,5 @@
 -- `run::ret` meets its contract. Assumes nothing.
-use mathlib.Core.Path.{_≡_, refl, sym}
+use mathlib.Core.Path.{_≡_, sym}
 use Prim.Native.Nat.{suc, _-_}
 use native.Mathlib.Omega.{arith}
 use Rattle.run.proofs.Turns.{turn-underflow, turn-ret}

@@ -1,5 +1,5 @@
 -- `run::run` meets its contract. Assumes nothing.
-use mathlib.Core.Path.{_≡_, refl, sym, _∙_}
+use mathlib.Core.Path.{sym, _∙_}
 use borrow.Author.Tests.{not-true, not-false}
 use Rattle.vm.specs.Told.{answerOf}
 use Rattle.vm.proofs.Loading.{verdict-refused, verdict-fine, refused-listed}

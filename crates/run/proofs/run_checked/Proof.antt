@@ -1,12 +1,10 @@
 -- `run::run_checked` meets its contract. Assumes nothing.
-use mathlib.Core.Path.{_≡_, refl, sym, _∙_}
+use mathlib.Core.Path.{_∙_}
 use mathlib.Core.List.{[]}
 use lib.ListN.{length-set}
 use native.Mathlib.Omega.{arith}
 use Rattle.vm.specs.Machine.{withRegs}
-use Rattle.vm.specs.Told.{lentOf}
 use Rattle.vm.specs.Told.{answerOf}
-use Rattle.run.specs.Loop.{finishedAt}
 use Rattle.run.proofs.Entering.{any-slots, root-is, frame-there, run-empty, run-past, run-goes, loaded, going, run-listed}
 use borrow.Author.Needs.{needs}
 use Rattle.run.proofs.run_checked.Statement.{statement}

@@ -1,5 +1,5 @@
 -- `run::set` meets its contract. Assumes nothing.
-use mathlib.Core.Path.{_≡_, refl, sym}
+use mathlib.Core.Path.{sym}
 use Rattle.run.proofs.Turns.{turn-set}
 use borrow.Author.Needs.{needs}
 use Rattle.run.proofs.set.Statement.{statement}

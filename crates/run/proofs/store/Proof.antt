@@ -1,5 +1,5 @@
 -- `run::store` meets its contract. Assumes nothing.
-use mathlib.Core.Path.{_≡_, refl, sym, _∙_}
+use mathlib.Core.Path.{sym, _∙_}
 use native.Mathlib.Omega.{arith}
 use Rattle.run.proofs.Turns.{place-room, turn-store-outside, turn-store}
 use borrow.Author.Needs.{needs}

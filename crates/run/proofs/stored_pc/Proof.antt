@@ -1,6 +1,5 @@
 -- `run::stored_pc` meets its contract. Assumes nothing.
-use mathlib.Core.Path.{_≡_, refl}
-use borrow.Author.Needs.{needs}
+use mathlib.Core.Path.{refl}
 use Rattle.run.proofs.stored_pc.Statement.{statement}
 use Rattle.run.proofs.stored_pc.Tie as tie
 

@@ -1,7 +1,5 @@
 -- `vm::boxed` meets its contract. Assumes nothing.
-use mathlib.Core.Path.{_≡_}
 use native.Mathlib.Omega.{arith}
-use Rattle.gc.specs.Lent.{outcome, allocOf}
 use Rattle.memory.proofs.Over.{length-write}
 use Rattle.vm.proofs.Boxes.{box-refused, box-low, box-room, box-small, box-written}
 use borrow.Author.Needs.{needs}

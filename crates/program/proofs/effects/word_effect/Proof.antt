@@ -1,5 +1,5 @@
 -- `program::effects::word_effect` meets its contract. Assumes nothing.
-use mathlib.Core.Path.{_≡_, refl, sym, _∙_}
+use mathlib.Core.Path.{refl, sym, _∙_}
 use Rattle.op.proofs.Sound.{ok-op}
 use Rattle.program.specs.Effect.{wordEffect}
 use borrow.Author.Needs.{needs}

@@ -1,7 +1,6 @@
 -- `program::loader::below` meets its contract. Assumes nothing.
 use mathlib.Core.Path.{_≡_, refl}
 use Prim.Native.Nat.{_-_}
-use native.Mathlib.Omega.{arith}
 use lib.ListN.{length, drop}
 use Rattle.program.specs.Image.{below}
 use Rattle.program.proofs.Images.{below-fails, below-on, below-end}

@@ -1,6 +1,5 @@
 -- `program::loader::check` meets its contract. Assumes nothing.
-use mathlib.Core.Path.{refl, sym, _∙_}
-use mathlib.Core.Bool.{_&&_}
+use mathlib.Core.Path.{sym, _∙_}
 use borrow.Author.Tests.{not-true, not-false}
 use Rattle.program.specs.Image.{counts, verdict}
 use Rattle.program.proofs.Images.{refused-10, refused-11, refused-16, word-by-word}

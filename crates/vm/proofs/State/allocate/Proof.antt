@@ -1,6 +1,5 @@
 -- `vm::State::allocate` meets its contract. Assumes nothing.
-use mathlib.Core.Path.{sym, ap, _∙_}
-use mathlib.Core.Bool.{_&&_}
+use mathlib.Core.Path.{sym, _∙_}
 use lib.Dec.{ltb}
 use borrow.Author.Tests.{not-true, not-false, ltb-true}
 use Rattle.memory.proofs.Tests.{both}

@@ -1,5 +1,5 @@
 -- `vm::lent::frames_belong` meets its contract. Assumes nothing.
-use mathlib.Core.Path.{sym, _∙_}
+use mathlib.Core.Path.{_∙_}
 use Rattle.vm.proofs.Buffers.{belong-deep, belong-empty, belong-idle, belong-below}
 use borrow.Author.Needs.{needs}
 use Rattle.vm.proofs.lent.frames_belong.Statement.{statement}
