@@ -6,7 +6,7 @@ use mathlib.Core.Path.{_≡_, refl}
 use lib.Dec.{eqb, leb}
 use borrow.Author.Tests.{leb-true, eqb-true}
 use native.Mathlib.Omega.{arith}
-pub use Rattle.memory.proofs.Tests.{both}
+use Rattle.memory.proofs.Tests.{both}
 use Rattle.anomaly.specs.Table.{isAnomaly, isRefusal}
 
 -- ---- What the arms before it say ----

@@ -3,9 +3,11 @@ use Prim.Native.Nat.{ℕ}
 use mathlib.Core.Bool.{Bool, _&&_, _||_}
 use lib.Dec.{eqb, leb}
 use Rattle.anomaly.specs.declared.Anomaly.{Anomaly}
-use Rattle.anomaly.specs.declared.Anomaly.the-variants.{DivisionByZero, AllocationFailed, StackOverflow, AssertionFailed, BadAddress, QuotientOverflow, FrameUnderflow}
+use Rattle.anomaly.specs.declared.Anomaly.the-variants.{DivisionByZero, AllocationFailed, StackOverflow, AssertionFailed, BadAddress}
+use Rattle.anomaly.specs.declared.Anomaly.the-variants.{QuotientOverflow, FrameUnderflow}
 use Rattle.anomaly.specs.declared.Refusal.{Refusal}
-use Rattle.anomaly.specs.declared.Refusal.the-variants.{Memory, State, Size, NoHalt, Opcode, Operand, Target, Index, TableTarget, SmallString, TableFull, Text}
+use Rattle.anomaly.specs.declared.Refusal.the-variants.{Memory, State, Size, NoHalt, Opcode, Operand, Target, Index, TableTarget}
+use Rattle.anomaly.specs.declared.Refusal.the-variants.{SmallString, TableFull, Text}
 use Rattle.anomaly.specs.declared.End.{End}
 use Rattle.anomaly.specs.declared.End.the-variants.{Halt, Budget, Stopped, Refused}
 

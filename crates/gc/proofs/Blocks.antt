@@ -9,7 +9,7 @@ use lib.Seq.{length-take-le, drop-drop}
 use lib.Dec.{leb, ltb}
 use borrow.Author.Tests.{le-leb, lt-leb, leb-true, leb-false, lt-ltb, le-ltb}
 use Rattle.memory.specs.Lists.{over}
-use Rattle.memory.proofs.Over.{over-is, over-take, over-write, over-over, take-over, tail-home, length-over, length-write}
+use Rattle.memory.proofs.Over.{over-is, over-take, over-write, over-over, take-over, tail-returned, length-over, length-write}
 use Rattle.gc.specs.declared.Gc.{Gc}
 use Rattle.gc.specs.declared.Alloc.{Alloc}
 use Rattle.gc.specs.declared.Alloc.the-variants.{At, Refused}
@@ -17,7 +17,8 @@ use Rattle.gc.specs.declared.Grown.{Grown}
 use Rattle.gc.specs.declared.Grown.the-variants.{To, Full}
 use Rattle.gc.specs.Metadata.{headerOf}
 use Rattle.gc.specs.Pages.{Pages, Block, growOf, gapOf, holds, block, pushed, fitted, allocated}
-use Rattle.gc.specs.Lent.{pageSize, pagesOf, numbersOf, fits, Outcome, outcome, granted, fastOf, slowOf, allocOf, refuses, Growth, growth, extended, extendedIn, Sound}
+use Rattle.gc.specs.Lent.{pageSize, pagesOf, numbersOf, fits, Outcome, outcome, granted, fastOf, slowOf, allocOf, refuses, Growth}
+use Rattle.gc.specs.Lent.{growth, extended, extendedIn, InHeap}
 use Rattle.gc.proofs.Growth.{grow-enough}
 use Rattle.gc.proofs.Headers.{header-length}
 
@@ -26,7 +27,7 @@ aligned : (len : ℕ) → len + gapOf len ≡ (len + 7) / 8 * 8
 unfolding gapOf
 aligned len = omega arith
 
-module _ (g : Gc) (heap : List ℕ) (s : Sound g heap) where
+module _ (g : Gc) (heap : List ℕ) (s : InHeap g heap) where
   pub pushed-is : length (take (g .pushed) heap) ≡ g .pushed
   pushed-is = length-take-le (g .pushed) heap (s .in-heap)
 
@@ -40,8 +41,11 @@ module _ (g : Gc) (heap : List ℕ) (s : Sound g heap) where
     unfolding fastOf granted
     fast-refused h = rw (holds-is, lt-leb _ _ h) refl
 
-    pub fast-granted : (x : List ℕ) (at : ℕ) → (g .len + 7) / 8 * 8 + 16 + n ≤ g .pushed - g .page → at ≡ g .page + (g .len + 7) / 8 * 8 → x ≡ over (headerOf n flags) (take (length heap - at) (drop at heap))
-        → outcome (At (g .base + (at + 16)) (record { base = g .base; pushed = g .pushed; page = g .page; len = (g .len + 7) / 8 * 8 + 16 + n })) (take at heap ++ (x ++ drop (length heap - at) (drop at heap))) ≡ fastOf g flags n heap
+    pub fast-granted : (x : List ℕ) (at : ℕ) → (g .len + 7) / 8 * 8 + 16 + n ≤ g .pushed - g .page → at ≡ g .page + (g .len + 7) / 8 * 8
+        → x ≡ over (headerOf n flags) (take (length heap - at) (drop at heap))
+        → outcome (At (g .base + (at + 16))
+        (record { base = g .base; pushed = g .pushed; page = g .page; len = (g .len + 7) / 8 * 8 + 16 + n }))
+        (take at heap ++ (x ++ drop (length heap - at) (drop at heap))) ≡ fastOf g flags n heap
     unfolding fastOf granted block pagesOf numbersOf
     fast-granted x at h e q =
         let in-heap = s .in-heap in
@@ -49,7 +53,18 @@ module _ (g : Gc) (heap : List ℕ) (s : Sound g heap) where
         let a : g .page + g .len + gapOf (g .len) ≡ at = omega (arith, aligned (g .len)) in
         let b : g .len + gapOf (g .len) + 16 + n ≡ (g .len + 7) / 8 * 8 + 16 + n = omega (arith, aligned (g .len)) in
         let room : at + length (headerOf n flags) ≤ length (take (g .pushed) heap) = rw (header-length n flags, pushed-is) (omega arith) in
-        rw (holds-is, le-leb _ _ h, a, b, length-write, pushed-is, q, tail-home at (length heap) (headerOf n flags) heap refl (omega arith), over-write at (headerOf n flags) (take (g .pushed) heap) heap room, over-take (g .pushed) heap) refl
+        rw (
+          holds-is,
+          le-leb _ _ h,
+          a,
+          b,
+          length-write,
+          pushed-is,
+          q,
+          tail-returned at (length heap) (headerOf n flags) heap refl (omega arith),
+          over-write at (headerOf n flags) (take (g .pushed) heap) heap room,
+          over-take (g .pushed) heap,
+        ) refl
 
   -- ---- a page more
   module _ (cap : ℕ) where
@@ -61,8 +76,9 @@ module _ (g : Gc) (heap : List ℕ) (s : Sound g heap) where
     unfolding numbersOf pushed pagesOf
     numbers-pushed = rw (length-append, pushed-is, length-replicate) refl
 
-    -- the lent part, zeroed, comes home
-    pub page-zeroed : (z : List ℕ) → g .pushed + cap ≤ length heap → z ≡ replicate (length (take (g .pushed + cap - g .pushed) (drop (g .pushed) heap))) 0
+    -- the lent part, zeroed, is given back
+    pub page-zeroed : (z : List ℕ) → g .pushed + cap ≤ length heap
+        → z ≡ replicate (length (take (g .pushed + cap - g .pushed) (drop (g .pushed) heap))) 0
         → take (g .pushed) heap ++ (z ++ drop (g .pushed + cap - g .pushed) (drop (g .pushed) heap)) ≡ over (pushed cap (pagesOf g heap) .bytes) heap
     unfolding pushed pagesOf
     page-zeroed z h e =
@@ -76,7 +92,8 @@ module _ (g : Gc) (heap : List ℕ) (s : Sound g heap) where
     unfolding extended fits
     grow-full h = rw (pushed-length, lt-leb _ _ h) refl
 
-    pub grow-to : (r : Gc) (x : List ℕ) → g .pushed + cap ≤ length heap → r ≡ numbersOf (pushed cap (pagesOf g heap)) → x ≡ over (pushed cap (pagesOf g heap) .bytes) heap
+    pub grow-to : (r : Gc) (x : List ℕ) → g .pushed + cap ≤ length heap → r ≡ numbersOf (pushed cap (pagesOf g heap))
+        → x ≡ over (pushed cap (pagesOf g heap) .bytes) heap
         → growth (To r) x ≡ extendedIn (pushed cap (pagesOf g heap)) heap
     unfolding extended fits
     grow-to r x h p q = rw (pushed-length, le-leb _ _ h, p, q) refl
@@ -84,7 +101,8 @@ module _ (g : Gc) (heap : List ℕ) (s : Sound g heap) where
 -- ---- a block in a new page
 
 -- what an answer says of the test that led to it
-to-said : (b : Bool) (m : Pages) (heap x : List ℕ) (r : Grown) (g : Gc) → r ≡ To g → growth r x ≡ extended b m heap → (b ≡ true) × (g ≡ numbersOf m) × (x ≡ over (m .bytes) heap)
+to-said : (b : Bool) (m : Pages) (heap x : List ℕ) (r : Grown) (g : Gc) → r ≡ To g → growth r x ≡ extended b m heap
+    → (b ≡ true) × (g ≡ numbersOf m) × (x ≡ over (m .bytes) heap)
 unfolding extended
 to-said true m heap x r g q e = let a = ap (λ (o : Growth). o .answer) e in (refl, cc, ap (λ (o : Growth). o .heap) e)
 to-said false m heap x r g q e = let z : _≡_ {A = ℕ} 0 1 = cc (ap (λ (o : Growth). o .answer) e) in absurd (omega arith)
@@ -105,11 +123,11 @@ refused-said true k heap x r q e = let z : _≡_ {A = ℕ} 0 1 = cc (ap (λ (o :
 refused-said false k heap x r q e = (refl, ap (λ (o : Outcome). o .heap) e)
 
 -- pages laid over a heap, and taken out of it again
-pub laid-back : (m : Pages) (heap : List ℕ) → length (m .bytes) ≤ length heap → pagesOf (numbersOf m) (over (m .bytes) heap) ≡ m
+pub pages-of-over : (m : Pages) (heap : List ℕ) → length (m .bytes) ≤ length heap → pagesOf (numbersOf m) (over (m .bytes) heap) ≡ m
 unfolding pagesOf numbersOf
-laid-back m heap h = rw (take-over (m .bytes) heap h) refl
+pages-of-over m heap h = rw (take-over (m .bytes) heap h) refl
 
-module _ (g : Gc) (flags n : ℕ) (heap : List ℕ) (s : Sound g heap) where
+module _ (g : Gc) (flags n : ℕ) (heap : List ℕ) (s : InHeap g heap) where
   -- the page that is pushed
   abbrev fresh : Pages
   fresh = pushed (growOf pageSize n) (pagesOf g heap)
@@ -136,16 +154,17 @@ module _ (g : Gc) (flags n : ℕ) (heap : List ℕ) (s : Sound g heap) where
     in-heap = leb-true _ _ (said .0)
 
     pages-are : pagesOf h x ≡ fresh
-    pages-are = rw (said .1, said .2) (laid-back fresh heap in-heap)
+    pages-are = rw (said .1, said .2) (pages-of-over fresh heap in-heap)
 
     fresh-holds : holds n fresh ≡ true
     unfolding holds pushed gapOf
     fresh-holds =
         let old = pagesOf g heap .bytes in
-        let k : 16 + n ≤ length (old ++ replicate (growOf pageSize n) 0) - length old = rw (length-append, length-replicate) (omega (arith, grow-enough pageSize n (omega arith))) in
+        let k : 16 + n ≤ length (old ++ replicate (growOf pageSize n) 0) - length old = rw (length-append, length-replicate)
+        (omega (arith, grow-enough pageSize n (omega arith))) in
         le-leb _ _ k
 
-    pub fresh-sound : Sound h x
+    pub fresh-sound : InHeap h x
     unfolding numbersOf pushed pagesOf
     fresh-sound =
         let low = s .low in
@@ -162,7 +181,15 @@ module _ (g : Gc) (flags n : ℕ) (heap : List ℕ) (s : Sound g heap) where
     pub slow-granted : (a : Alloc) (y : List ℕ) → outcome a y ≡ fastOf h flags n x → outcome a y ≡ slowOf g flags n heap
     unfolding fastOf granted
     slow-granted a y p =
-        p ∙ rw (pages-are, fresh-holds, starts-empty, slow-is, said .0, said .2, over-over (block flags n 0 fresh .pages .bytes) (fresh .bytes) heap keeps) refl
+        p ∙ rw (
+          pages-are,
+          fresh-holds,
+          starts-empty,
+          slow-is,
+          said .0,
+          said .2,
+          over-over (block flags n 0 fresh .pages .bytes) (fresh .bytes) heap keeps,
+        ) refl
 
   -- ---- in either page
 
@@ -186,7 +213,8 @@ module _ (g : Gc) (flags n : ℕ) (heap : List ℕ) (s : Sound g heap) where
   unfolding fits
   fits-fresh = rw (pushed-length g heap s (growOf pageSize n)) refl
 
-  pub refused-exactly : refuses (allocOf g flags n heap .answer) ≡ (not (holds n (pagesOf g heap)) && ltb (length heap - g .pushed) (growOf pageSize n))
+  pub refused-exactly : refuses (allocOf g flags n heap .answer)
+      ≡ (not (holds n (pagesOf g heap)) && ltb (length heap - g .pushed) (growOf pageSize n))
   unfolding allocOf allocated fitted granted pagesOf
   refused-exactly = go _ refl
     where
@@ -195,7 +223,8 @@ module _ (g : Gc) (flags n : ℕ) (heap : List ℕ) (s : Sound g heap) where
 
       grows : (b : Bool) → leb (g .pushed + growOf pageSize n) (length heap) ≡ b → not b ≡ ltb left (growOf pageSize n)
       grows true e = let k = leb-true (g .pushed + growOf pageSize n) (length heap) e in sym (le-ltb left (growOf pageSize n) (omega arith))
-      grows false e = let k = leb-false (g .pushed + growOf pageSize n) (length heap) e in sym (lt-ltb left (growOf pageSize n) (omega (arith, s .in-heap, grow-enough pageSize n (omega arith))))
+      grows false e = let k = leb-false (g .pushed + growOf pageSize n) (length heap) e in sym
+          (lt-ltb left (growOf pageSize n) (omega (arith, s .in-heap, grow-enough pageSize n (omega arith))))
 
       answered : (b : Bool) (k : Block) → refuses (granted b k heap .answer) ≡ not b
       answered true k = refl
@@ -203,4 +232,6 @@ module _ (g : Gc) (flags n : ℕ) (heap : List ℕ) (s : Sound g heap) where
 
       go : (t : Bool) → holds n (pagesOf g heap) ≡ t → refuses (allocOf g flags n heap .answer) ≡ (not t && ltb left (growOf pageSize n))
       go true t = rw (t, last-fits (gapOf (g .len))) refl
-      go false t = rw (t, fresh-fits) (answered (fits fresh (length heap)) (block flags n 0 fresh) ∙ ap not fits-fresh ∙ grows (leb (g .pushed + growOf pageSize n) (length heap)) refl)
+      go false t = rw (t, fresh-fits)
+          (answered (fits fresh (length heap)) (block flags n 0 fresh) ∙ ap not fits-fresh
+          ∙ grows (leb (g .pushed + growOf pageSize n) (length heap)) refl)

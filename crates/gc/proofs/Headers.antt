@@ -19,7 +19,8 @@ flags-padded f h =
     let none : f / 256 ≡ 0 = omega arith in
     rw (low, none) refl
 
-pub header-written : (size flags w : ℕ) (to : List ℕ) → w ≡ flags → flags < 256 → write 8 (bytesOf 8 w) (write 0 (bytesOf 8 size) to) ≡ over (headerOf size flags) to
+pub header-written : (size flags w : ℕ) (to : List ℕ) → w ≡ flags → flags < 256
+    → write 8 (bytesOf 8 w) (write 0 (bytesOf 8 size) to) ≡ over (headerOf size flags) to
 unfolding headerOf write
 header-written size flags w to e h =
     ap (λ (k : ℕ). write k (bytesOf 8 w) (write 0 (bytesOf 8 size) to)) (sym (zero-add (length (bytesOf 8 size)) ∙ length-bytesOf 8 size))

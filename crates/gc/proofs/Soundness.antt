@@ -9,23 +9,29 @@ use lib.Dec.{leb, ltb, eqb}
 use borrow.Author.Tests.{leb-true, lt-ltb, le-ltb}
 use Rattle.memory.proofs.Tests.{both, leb-minus}
 use Rattle.gc.specs.declared.Gc.{Gc}
-use Rattle.gc.specs.Lent.{pageSize, soundOf, Sound}
+use Rattle.gc.specs.Lent.{pageSize, soundOf, InHeap}
 
 module _ (g : Gc) (lent : ℕ) where
   pub no-page : g .pushed ≤ g .page → false ≡ soundOf g lent
   unfolding soundOf
-  no-page h = rw (le-ltb (g .page) (g .pushed) h) (all-false (ltb 0 (g .pushed)) (eqb (g .pushed % pageSize) 0) (leb (g .pushed) lent) (eqb (g .page % pageSize) 0))
+  no-page h = rw (le-ltb (g .page) (g .pushed) h)
+      (all-false (ltb 0 (g .pushed)) (eqb (g .pushed % pageSize) 0) (leb (g .pushed) lent) (eqb (g .page % pageSize) 0))
     where
       all-false : (a b c d : Bool) → false ≡ (a && (b && (c && (d && false))))
       all-false a b c d = simp and-false
 
   pub by-end : g .page < g .pushed
-      → (eqb (g .pushed % pageSize) 0 && (leb (g .pushed) lent && (eqb (g .page % pageSize) 0 && leb (g .len) (g .pushed - g .page)))) ≡ soundOf g lent
+      → (eqb (g .pushed % pageSize) 0 && (leb (g .pushed) lent && (eqb (g .page % pageSize) 0 && leb (g .len) (g .pushed - g .page))))
+      ≡ soundOf g lent
   unfolding soundOf
-  by-end h = rw (lt-ltb 0 (g .pushed) (omega arith), lt-ltb (g .page) (g .pushed) h, leb-minus (g .len) (g .page) (g .pushed) (g .page + g .len) (omega arith) (omega arith)) refl
+  by-end h = rw (
+    lt-ltb 0 (g .pushed) (omega arith),
+    lt-ltb (g .page) (g .pushed) h,
+    leb-minus (g .len) (g .page) (g .pushed) (g .page + g .len) (omega arith) (omega arith),
+  ) refl
 
 -- numbers that pass, in a heap that 10 has passed
-pub sound : (g : Gc) (heap : List ℕ) → g .base + length heap ≤ 2 ^ 48 → soundOf g (length heap) ≡ true → Sound g heap
+pub sound : (g : Gc) (heap : List ℕ) → g .base + length heap ≤ 2 ^ 48 → soundOf g (length heap) ≡ true → InHeap g heap
 unfolding soundOf
 sound g heap low e =
     let whole = both (ltb 0 (g .pushed)) _ e .1 in

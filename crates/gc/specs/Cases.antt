@@ -3,7 +3,7 @@
 use mathlib.Core.Path.{_≡_, refl}
 use mathlib.Core.Bool.{true}
 use mathlib.Core.List.{List, [], _∷_}
-use Prim.Native.Nat.{ℕ}
+use Prim.Native.Nat.{ℕ, _+_}
 use lib.ListN.{length, replicate}
 use Rattle.memory.specs.Bytes.{bytesOf}
 use Rattle.memory.specs.Lists.{over, write}
@@ -11,20 +11,22 @@ use Rattle.memory.specs.Rows.{hold}
 use Rattle.gc.specs.Metadata.{headerOf}
 use Rattle.gc.specs.Pages.{Pages, Block, growOf, gapOf, holds, block, pushed, fitted, allocated}
 
--- page 0 when it holds the box of none, and a block of n bytes more
+-- page 0 when it holds the box of none
 unfoldable pub started : Pages
 started = record { base = 65536; bytes = replicate 4096 0; last = 0; len = 32 }
 
-abbrev with-block : ℕ → Block
-with-block n = allocated 4096 0 n started
+-- a block of n bytes more
+abbrev with-block : ℕ → Pages → Block
+with-block n m = allocated 4096 0 n m
 
 unfoldable pub rows : List (ℕ × ℕ)
 rows =
-    -- after a start, size 4,048 fills page 0
-    (with-block 4048 .pages .len, 4096)
-    -- size 4,049 opens a page of 4,096 bytes behind it
-    ∷ (with-block 4049 .pages .last, 4096)
-    ∷ (length (with-block 4049 .pages .bytes), 8192)
+    -- behind 81 bytes the next header stands at 88
+    (gapOf 81, 7)
+    -- a page of 8,192 bytes behind page 0
+    ∷ (length (with-block 4073 started .pages .bytes), 12288)
+    -- the tail of an older page is never used again: behind a block that opened page 1, the next one stands there too
+    ∷ (with-block 8 (with-block 4049 started .pages) .address, 65536 + 4096 + 4088)
     ∷ []
 
 pub all-hold : hold rows ≡ true

@@ -74,11 +74,16 @@ extendedIn m heap = extended (fits m (length heap)) m heap
 -- 9: 'pushed pages absent, broken or past the heap; the last page's place no page start inside them, or its length past their end'
 unfoldable pub soundOf : Gc → ℕ → Bool
 soundOf g lent =
-    ltb 0 (g .pushed) && (eqb (g .pushed % pageSize) 0 && (leb (g .pushed) lent && (eqb (g .page % pageSize) 0 && (ltb (g .page) (g .pushed) && leb (g .page + g .len) (g .pushed)))))
+    ltb 0 (g .pushed)
+    && (eqb (g .pushed % pageSize) 0
+    && (leb (g .pushed) lent
+    && (eqb (g .page % pageSize) 0
+    && (ltb (g .page) (g .pushed)
+    && leb (g .page + g .len) (g .pushed)))))
 
--- what allocating asks of the heap's numbers: it ends at 2 ^ 48 at the latest, the pages lie in it, and the last one's length in the pages. It
--- is less than 9 tests: a start allocates before a page is pushed
-pub record Sound (g : Gc) (heap : List ℕ) : Type 0 where
+-- what allocating asks of the heap's numbers: it ends at 2 ^ 48 at the latest, the pages lie in it, and the last one's length in the pages.
+-- This is less than 9 asks: a start allocates before a page is pushed
+pub record InHeap (g : Gc) (heap : List ℕ) : Type 0 where
   pub low : g .base + length heap ≤ 2 ^ 48
   pub in-heap : g .pushed ≤ length heap
   pub in-pages : g .page + g .len ≤ g .pushed

@@ -6,9 +6,18 @@ ghost use lib.ListN.{length};
 ghost use Rattle.memory.specs.Lists.{over};
 ghost use Rattle.gc.specs.Metadata.{bitsOf, flagsOf, headerOf};
 ghost use Rattle.gc.specs.Pages.{growOf, pushed};
-ghost use Rattle.gc.specs.Lent.{pageSize, pagesOf, numbersOf, outcome, fastOf, slowOf, allocOf, growth, extendedIn, soundOf, Sound};
+ghost use Rattle.gc.specs.Lent.{pageSize, pagesOf, numbersOf, outcome, fastOf, slowOf, allocOf, growth, extendedIn, soundOf, InHeap};
 
 pub const PAGE_SIZE: usize = 4096;
+
+// 2^48: every heap ends here at the latest.
+pub const HEAP_END: u64 = 0x1_0000_0000_0000;
+
+// A payload's place is a multiple of this.
+const PAYLOAD_ALIGN: usize = 8;
+
+// What a new page holds beside a payload: its header, and room to align it.
+const GROWTH: usize = Metadata::SIZE + PAYLOAD_ALIGN;
 
 // What a block holds.
 pub enum AllocType {
@@ -119,7 +128,7 @@ impl Gc {
 
     // A block in the last page, if that can hold it.
     pub fn alloc_fast(self, m: Metadata, heap: &mut [u8]) -> Alloc
-        requires { ⌜ Sound self (now heap) ⌝ }
+        requires { ⌜ InHeap self (now heap) ⌝ }
         ensures { λ r. ⌜ outcome r (now (heap .exit)) ≡ fastOf self (m .flags) (m .size) (now (heap .entry)) ⌝ }
     {
         let base = self.base;
@@ -150,8 +159,9 @@ impl Gc {
 
     // A page of `cap` bytes behind the others, zeroed.
     fn push_page(self, cap: usize, heap: &mut [u8]) -> Gc
-        requires { ⌜ Sound self (now heap) × (self .pushed + cap ≤ length (now heap)) ⌝ }
-        ensures { λ r. ⌜ (r ≡ numbersOf (pushed cap (pagesOf self (now (heap .entry))))) × (now (heap .exit) ≡ over (pushed cap (pagesOf self (now (heap .entry))) .bytes) (now (heap .entry))) ⌝ }
+        requires { ⌜ InHeap self (now heap) × (self .pushed + cap ≤ length (now heap)) ⌝ }
+        ensures { λ r. ⌜ (r ≡ numbersOf (pushed cap (pagesOf self (now (heap .entry)))))
+            × (now (heap .exit) ≡ over (pushed cap (pagesOf self (now (heap .entry))) .bytes) (now (heap .entry))) ⌝ }
     {
         let page = self.pushed;
         let pushed = page + cap;
@@ -166,15 +176,16 @@ impl Gc {
 
     // A page that can hold a block of `size` bytes, if the lent heap has so much left.
     pub fn grow(self, size: u64, heap: &mut [u8]) -> Grown
-        requires { ⌜ Sound self (now heap) ⌝ }
-        ensures { λ r. ⌜ growth r (now (heap .exit)) ≡ extendedIn (pushed (growOf pageSize size) (pagesOf self (now (heap .entry)))) (now (heap .entry)) ⌝ }
+        requires { ⌜ InHeap self (now heap) ⌝ }
+        ensures { λ r. ⌜ growth r (now (heap .exit))
+            ≡ extendedIn (pushed (growOf pageSize size) (pagesOf self (now (heap .entry)))) (now (heap .entry)) ⌝ }
     {
         let pushed = self.pushed;
         // no sum below passes 2^64
         if (heap.len() as u64) < size {
             return Grown::Full;
         }
-        let required = 24 + size as usize;
+        let required = GROWTH + size as usize;
         let cap = (required + (PAGE_SIZE - 1)) / PAGE_SIZE * PAGE_SIZE;
         if heap.len() - pushed < cap {
             return Grown::Full;
@@ -184,7 +195,7 @@ impl Gc {
 
     // A block in a new page.
     fn alloc_slow(self, m: Metadata, heap: &mut [u8]) -> Alloc
-        requires { ⌜ Sound self (now heap) ⌝ }
+        requires { ⌜ InHeap self (now heap) ⌝ }
         ensures { λ r. ⌜ outcome r (now (heap .exit)) ≡ slowOf self (m .flags) (m .size) (now (heap .entry)) ⌝ }
     {
         let Grown::To(g) = self.grow(m.size, heap) else {
@@ -195,7 +206,7 @@ impl Gc {
 
     // A block in the last page if that can hold it, or else in a new one.
     pub fn alloc(self, m: Metadata, heap: &mut [u8]) -> Alloc
-        requires { ⌜ Sound self (now heap) ⌝ }
+        requires { ⌜ InHeap self (now heap) ⌝ }
         ensures { λ r. ⌜ outcome r (now (heap .exit)) ≡ allocOf self (m .flags) (m .size) (now (heap .entry)) ⌝ }
     {
         match self.alloc_fast(m, heap) {

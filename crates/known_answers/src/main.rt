@@ -6,7 +6,6 @@ use gc::AllocType;
 use gc::Gc;
 use gc::Metadata;
 use libc::STDOUT_FILENO;
-use op::Decoded;
 use string::table::Probe;
 use string::table::StrTable;
 use value::Value;
@@ -136,10 +135,7 @@ fn names() {
 
 // 0 for an instruction, or the refusal's number.
 fn decoded(w: u64) -> u64 {
-    match op::decode(w) {
-        Decoded::Op(_) => 0,
-        Decoded::Refused(n) => n,
-    }
+    op::decode(w).refusal()
 }
 
 fn words() {

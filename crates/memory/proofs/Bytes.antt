@@ -37,7 +37,8 @@ value-append : (xs ys : List ℕ) → valueOf (xs ++ ys) ≡ valueOf xs + 256 ^ 
 unfolding valueOf
 value-append [] ys = sym (zero-add (1 * valueOf ys) ∙ one-mul (valueOf ys))
 value-append (x ∷ xs) ys =
-    ap (λ (v : ℕ). x + 256 * v) (value-append xs ys) ∙ regroup x (valueOf xs) (256 ^ length xs) (valueOf ys) ∙ ap (λ (p : ℕ). x + 256 * valueOf xs + p * valueOf ys) (sym (power-suc (length xs)))
+    ap (λ (v : ℕ). x + 256 * v) (value-append xs ys) ∙ regroup x (valueOf xs) (256 ^ length xs) (valueOf ys)
+    ∙ ap (λ (p : ℕ). x + 256 * valueOf xs + p * valueOf ys) (sym (power-suc (length xs)))
   where
     regroup : (x v p y : ℕ) → x + 256 * (v + p * y) ≡ x + 256 * v + p * 256 * y
     regroup x v p y = let e : p * 256 * y ≡ 256 * (p * y) = ap (λ (q : ℕ). q * y) (mul-comm p 256) ∙ mul-assoc 256 p y in omega (arith, e)
@@ -61,7 +62,10 @@ unfolding bytesOf
 bytesOf-add zero n v = ap₂ bytesOf (zero-add n) (omega arith)
 bytesOf-add (suc m) n v =
     ap (λ (k : ℕ). bytesOf k v) (suc-add m n)
-    ∙ ap (λ (l : List ℕ). v % 256 ∷ l) (bytesOf-add m n (v / 256) ∙ ap (λ (w : ℕ). bytesOf m (v / 256) ++ bytesOf n w) (div-div-eq-div-mul v 256 (256 ^ m) ∙ ap (λ (p : ℕ). v / p) (mul-comm 256 (256 ^ m) ∙ sym (power-suc m))))
+    ∙ ap (λ (l : List ℕ). v % 256 ∷ l)
+    (bytesOf-add m n (v / 256)
+    ∙ ap (λ (w : ℕ). bytesOf m (v / 256) ++ bytesOf n w)
+    (div-div-eq-div-mul v 256 (256 ^ m) ∙ ap (λ (p : ℕ). v / p) (mul-comm 256 (256 ^ m) ∙ sym (power-suc m))))
 
 pub length-bytesOf : (k v : ℕ) → length (bytesOf k v) ≡ k
 unfolding bytesOf
@@ -109,4 +113,5 @@ unfolding valueOf same
 value-same [] [] h k e = refl
 value-same [] (y ∷ ys) h k e = absurd (omega arith)
 value-same (x ∷ xs) [] h k e = absurd (omega arith)
-value-same (x ∷ xs) (y ∷ ys) h k e = eqb-digit x y (valueOf xs) (valueOf ys) _ _ (h zero) (k zero) refl (value-same xs ys (λ i. h (suc i)) (λ i. k (suc i)) (suc-inj e))
+value-same (x ∷ xs) (y ∷ ys) h k e = eqb-digit x y (valueOf xs) (valueOf ys) _ _ (h zero) (k zero) refl
+    (value-same xs ys (λ i. h (suc i)) (λ i. k (suc i)) (suc-inj e))

@@ -24,7 +24,8 @@ module _ (from to : List ℕ) where
   one-more : (i : ℕ) → i < length from → length from ≤ length to → set (over (take i from) to) i (getD from i 0) ≡ over (take (i + 1) from) to
   one-more i h k =
       let e : length (take i from) ≡ i = length-take-le i from (omega arith) in
-      ap (λ (j : ℕ). set (over (take i from) to) j (getD from i 0)) (sym e) ∙ over-more (take i from) (getD from i 0) to (rw e (omega arith)) ∙ rw (add-one, take-suc from i 0)
+      ap (λ (j : ℕ). set (over (take i from) to) j (getD from i 0)) (sym e)
+      ∙ over-more (take i from) (getD from i 0) to (rw e (omega arith)) ∙ rw (add-one, take-suc from i 0)
 
   module _ (now : List ℕ) (i : ℕ) (g : Copied from to now i) where
     pub copy-next : i < length from → length from ≤ length to → Copied from to (set now i (getD from i 0)) (i + 1)

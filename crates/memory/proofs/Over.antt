@@ -1,4 +1,4 @@
--- Lists written over lists: lengths, two writes in a row, and the forms in which a lent part comes home. Assumes nothing.
+-- Lists written over lists: lengths, two writes in a row, and the forms in which a lent part is given back. Assumes nothing.
 use mathlib.Core.Path.{_≡_, refl, sym, ap, _∙_}
 use Prim.Native.Nat.{ℕ, zero, suc, _+_, _-_, _≤_, _<_}
 use mathlib.Core.List.{List, [], _∷_, _++_, append-nil}
@@ -33,7 +33,7 @@ take-over [] old h = refl
 take-over (x ∷ new) [] h = absurd (not-suc-le-zero h)
 take-over (x ∷ new) (y ∷ old) h = ap (λ (r : List ℕ). x ∷ r) (take-over new old (le-of-suc-le-suc h))
 
--- the form in which a lent front comes home
+-- the form in which a lent front is given back
 pub over-is : (new old : List ℕ) → length new ≤ length old → over new old ≡ new ++ drop (length new) old
 unfolding over
 over-is [] old h = refl
@@ -54,7 +54,7 @@ over-more xs v [] k = absurd (not-suc-le-zero k)
 over-more [] v (y ∷ h) k = refl
 over-more (x ∷ xs) v (y ∷ h) k = ap (λ (r : List ℕ). x ∷ r) (over-more xs v h (le-of-suc-le-suc k))
 
--- the form in which a lent tail comes home
+-- the form in which a lent tail is given back
 pub write-is : (a : ℕ) (bs xs : List ℕ) → write a bs xs ≡ take a xs ++ over bs (drop a xs)
 unfolding write over
 write-is zero bs xs = refl
@@ -103,17 +103,20 @@ pub write-append : (a : ℕ) (bs cs xs : List ℕ) → write (a + length bs) cs 
 unfolding write
 write-append zero bs cs xs = ap (λ (n : ℕ). write n cs (over bs xs)) (zero-add (length bs)) ∙ over-append bs cs xs
 write-append (suc a) bs cs [] = ap (λ (n : ℕ). write n cs []) (suc-add a (length bs))
-write-append (suc a) bs cs (x ∷ xs) = ap (λ (n : ℕ). write n cs (x ∷ write a bs xs)) (suc-add a (length bs)) ∙ ap (λ (r : List ℕ). x ∷ r) (write-append a bs cs xs)
+write-append (suc a) bs cs (x ∷ xs) = ap (λ (n : ℕ). write n cs (x ∷ write a bs xs)) (suc-add a (length bs))
+    ∙ ap (λ (r : List ℕ). x ∷ r) (write-append a bs cs xs)
 
--- ---- the forms in which lent parts come home
+-- ---- the forms in which lent parts are given back
 
 -- a tail, &mut xs[a..]
-pub tail-home : (a n : ℕ) (bs xs : List ℕ) → n ≡ length xs → a ≤ n → take a xs ++ (over bs (take (n - a) (drop a xs)) ++ drop (n - a) (drop a xs)) ≡ write a bs xs
-tail-home a n bs xs e h =
+pub tail-returned : (a n : ℕ) (bs xs : List ℕ) → n ≡ length xs → a ≤ n
+    → take a xs ++ (over bs (take (n - a) (drop a xs)) ++ drop (n - a) (drop a xs)) ≡ write a bs xs
+tail-returned a n bs xs e h =
     let l : length (drop a xs) ≤ n - a = rw (length-drop, e) (omega arith) in
     rw (take-all (n - a) (drop a xs) l, drop-of-length-le (drop a xs) l, append-nil) (sym (write-is a bs xs))
 
 -- a front, &mut xs[..n], where the whole was laid over before
-pub front-home : (new mid old : List ℕ) (n : ℕ) → length new ≡ n → length mid ≡ n → n ≤ length old → new ++ drop n (over mid old) ≡ over new old
-front-home new mid old n p q h =
-    ap (λ (k : ℕ). new ++ drop k (over mid old)) (sym p) ∙ sym (over-is new (over mid old) (rw (length-over, p) h)) ∙ over-over new mid old (omega arith)
+pub front-returned : (new mid old : List ℕ) (n : ℕ) → length new ≡ n → length mid ≡ n → n ≤ length old → new ++ drop n (over mid old) ≡ over new old
+front-returned new mid old n p q h =
+    ap (λ (k : ℕ). new ++ drop k (over mid old)) (sym p) ∙ sym (over-is new (over mid old) (rw (length-over, p) h))
+    ∙ over-over new mid old (omega arith)

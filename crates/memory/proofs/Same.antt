@@ -1,7 +1,7 @@
 -- Comparing two lists of bytes, by eight and then what is left. Assumes nothing.
 use mathlib.Core.Path.{_≡_, refl, sym, ap, ap₂, _∙_}
 use Prim.Native.Nat.{ℕ, suc, _+_, _-_, _≤_}
-use mathlib.Core.Bool.{Bool, false, _&&_, and-assoc, and-false}
+use mathlib.Core.Bool.{Bool, false, _&&_, and-assoc}
 use mathlib.Core.List.{List, [], _∷_, _++_}
 use native.Mathlib.Omega.{arith}
 use native.Mathlib.Nat.{suc-inj}
@@ -18,15 +18,8 @@ unfolding same
 same-append [] b [] d e = refl
 same-append [] b (y ∷ c) d e = absurd (omega arith)
 same-append (x ∷ a) b [] d e = absurd (omega arith)
-same-append (x ∷ a) b (y ∷ c) d e = ap (λ (t : Bool). eqb x y && t) (same-append a b c d (suc-inj e)) ∙ sym (and-assoc (eqb x y) (same a c) (same b d))
-
--- lists of different lengths differ
-pub same-lengths : (a b : List ℕ) → (length a ≡ length b → ⊥) → same a b ≡ false
-unfolding same
-same-lengths [] [] h = absurd (h refl)
-same-lengths [] (y ∷ b) h = refl
-same-lengths (x ∷ a) [] h = refl
-same-lengths (x ∷ a) (y ∷ b) h = rw (same-lengths a b (λ e. h (ap suc e))) (and-false (eqb x y))
+same-append (x ∷ a) b (y ∷ c) d e = ap (λ (t : Bool). eqb x y && t) (same-append a b c d (suc-inj e))
+    ∙ sym (and-assoc (eqb x y) (same a c) (same b d))
 
 -- the first i bytes of two equally long lists are equal, and the rest decides
 pub record Comparing (a b : List ℕ) (i : ℕ) : Type 0 where
@@ -47,7 +40,9 @@ module _ (a b : List ℕ) (e : length a ≡ length b) (ba : Bytes a) (bb : Bytes
           ap₂ same (sym (take-append-drop 8 (drop i a))) (sym (take-append-drop 8 (drop i b)))
           ∙ same-append (take 8 (drop i a)) (drop 8 (drop i a)) (take 8 (drop i b)) (drop 8 (drop i b)) (la ∙ sym lb)
           ∙ ap₂ _&&_
-          (sym (value-same (take 8 (drop i a)) (take 8 (drop i b)) (bytes-take 8 (drop i a) (bytes-drop i a ba)) (bytes-take 8 (drop i b) (bytes-drop i b bb)) (la ∙ sym lb)))
+          (sym
+          (value-same (take 8 (drop i a)) (take 8 (drop i b)) (bytes-take 8 (drop i a) (bytes-drop i a ba))
+          (bytes-take 8 (drop i b) (bytes-drop i b bb)) (la ∙ sym lb)))
           (ap₂ same (drop-drop 8 i a) (drop-drop 8 i b))
 
       pub compare-next : (x y : ℕ) → x ≡ number 8 i a → y ≡ number 8 i b → x ≡ y → Comparing a b (i + 8)
@@ -69,4 +64,5 @@ module _ (a b : List ℕ) (e : length a ≡ length b) (ba : Bytes a) (bb : Bytes
         let lb : length (drop i b) ≡ length a - i = length-drop i b ∙ ap (λ (n : ℕ). n - i) (sym e) in
         let ta : take (length a - i) (drop i a) ≡ drop i a = take-all (length a - i) (drop i a) (omega arith) in
         let tb : take (length a - i) (drop i b) ≡ drop i b = take-all (length a - i) (drop i b) (omega arith) in
-        ap₂ eqb (p ∙ ap valueOf ta) (q ∙ ap valueOf tb) ∙ value-same (drop i a) (drop i b) (bytes-drop i a ba) (bytes-drop i b bb) (la ∙ sym lb) ∙ g .is
+        ap₂ eqb (p ∙ ap valueOf ta) (q ∙ ap valueOf tb)
+        ∙ value-same (drop i a) (drop i b) (bytes-drop i a ba) (bytes-drop i b bb) (la ∙ sym lb) ∙ g .is

@@ -15,6 +15,7 @@ pub write-behind : (before mid : List ℕ) (a b : ℕ) (xs ys : List ℕ) → Wr
 write-behind before mid a b xs ys w = rw (w .is, w .ends) (write-append a xs ys before)
 
 infixl 5 _then_
-pub _then_ : {before mid after : List ℕ} {a b c : ℕ} {xs ys : List ℕ} → Written before a xs mid b → Written mid b ys after c → Written before a (xs ++ ys) after c
+pub _then_ : {before mid after : List ℕ} {a b c : ℕ} {xs ys : List ℕ} → Written before a xs mid b → Written mid b ys after c
+    → Written before a (xs ++ ys) after c
 _then_ {before} {mid} {after} {a} {b} {c} {xs} {ys} p q =
     record { ends = omega (arith, p .ends, q .ends, length-append xs ys); is = q .is ∙ write-behind before mid a b xs ys p }

@@ -37,7 +37,7 @@ pub fn load8(s: &[u8], at: usize) -> u64
 {
     let low = load4(s, at);
     let high = load4(s, at + 4);
-    low + high * 4294967296
+    low + high * 0x1_0000_0000
 }
 
 // The lowest 2, 4 and 8 bytes of a number, written at `at`.
@@ -62,7 +62,7 @@ pub fn store8(s: &mut [u8], at: usize, v: u64)
     ensures { λ _. ⌜ now (s .exit) ≡ write at (bytesOf 8 v) (now (s .entry)) ⌝ }
 {
     store4(s, at, v);
-    store4(s, at + 4, v / 4294967296);
+    store4(s, at + 4, v / 0x1_0000_0000);
 }
 
 pub fn copy_words(from: &[u64], to: &mut [u64])

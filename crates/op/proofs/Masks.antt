@@ -9,7 +9,8 @@ use lib.Dec.{eqb, ltb, leb, eqb·suc-zero}
 use lib.Bits.{bitAnd, and-block, and-high, and-zero-r}
 use lib.Pow.{pow-pos, pow-mono, pow-sub-lt, split, mod-pow-add}
 use borrow.Author.Tests.{ltb-false, lt-ltb, le-ltb, leb-true, leb-false, eq-eqb, ne-eqb}
-use Rattle.op.specs.Layout.{Parts, partsOf, holds, passes, isAlignment, Field, unused, register, switchKind, allocKind, alignment, anyByte, anyNumber}
+use Rattle.op.specs.Layout.{Parts, partsOf, holds, passes, isAlignment, Field, unused, register, switchKind, allocKind, alignment}
+use Rattle.op.specs.Layout.{anyByte, anyNumber}
 use Rattle.op.specs.Masks.{bits, from, maskOf, aligned, allAligned}
 
 -- ---- A mask and the bounds that it is made of ----
@@ -174,5 +175,6 @@ one-register = masked 5 0 0 0
 pub bare : (w : ℕ) → eqb (bitAnd w 0xffffffffffffff00) 0 ≡ passes unused unused unused unused (partsOf w)
 bare = masked 0 0 0 0
 
-pub alloc : (w : ℕ) → (eqb (bitAnd w 0x0000000000fce000) 0 && isAlignment (partsOf w .three)) ≡ passes register allocKind alignment anyNumber (partsOf w)
+pub alloc : (w : ℕ) → (eqb (bitAnd w 0x0000000000fce000) 0 && isAlignment (partsOf w .three))
+    ≡ passes register allocKind alignment anyNumber (partsOf w)
 alloc w = rw (by-mask register allocKind alignment anyNumber w, and-true)

@@ -8,7 +8,9 @@ use native.Mathlib.Omega.{arith}
 use lib.Dec.{ltb}
 use lib.ListN.{getD}
 use borrow.Author.Tests.{ltb-true}
-use Rattle.op.specs.Layout.{Parts, partsOf, holds, passes, isAlignment, Field, unused, register, switchKind, allocKind, alignment, anyByte, anyNumber}
+use Rattle.memory.proofs.Tests.{both}
+use Rattle.op.specs.Layout.{Parts, partsOf, holds, passes, isAlignment, Field, unused, register, switchKind, allocKind, alignment}
+use Rattle.op.specs.Layout.{anyByte, anyNumber}
 use Rattle.op.specs.Decode.{Row, row, absent, rows, rowOf, checkedOf, decodedBy, decodeOf}
 use Rattle.op.specs.Reach.{Reach, Nothing, Code, Global, SwitchTable, LookupTable, reachOf, insideOf, within, judged, checkOf}
 use Rattle.op.specs.Operands.{okOp, Within}
@@ -16,7 +18,6 @@ use Rattle.op.specs.declared.Op.{Op}
 use Rattle.op.specs.declared.Decoded.{Decoded}
 use Rattle.op.specs.declared.Counts.{Counts}
 use Rattle.op.specs.declared.Checked.{Checked}
-use Rattle.anomaly.proofs.Numbers.{both}
 
 -- ---- From the tests of a word to what they test ----
 
@@ -122,7 +123,8 @@ all-sound =
     three-registers also two-registers also three-registers also two-registers also three-registers also two-registers also
     three-registers also two-registers also three-registers also two-registers also three-registers also two-registers also
     three-registers also three-registers also three-registers also two-registers also two-registers also two-registers also
-    three-registers also three-registers also three-registers also three-registers also three-registers also three-registers also three-registers also three-registers also
+    three-registers also three-registers also three-registers also three-registers also three-registers also three-registers also
+    three-registers also three-registers also
     two-registers also one-register also one-and-number also
     jump also jump-if also jump-if also jump-if also jump-if also jump-two also jump-two also
     two-and-number also lookup also only-number also only-number also

@@ -192,7 +192,7 @@ pub enum Op {
         lhs: Reg,
         rhs: Reg,
     },
-    // r[dst] = r[lhs] == r[rhs], by value: equal names share one address
+    // r[dst] = r[lhs] == r[rhs], by value and not by bytes
     SEq {
         dst: Reg,
         lhs: Reg,
@@ -239,7 +239,7 @@ pub enum Op {
         imm: u64,
         target: usize,
     },
-    // if r[lhs] == r[rhs] { pc = target }, by value: equal names share one address
+    // if r[lhs] == r[rhs] { pc = target }, by value and not by bytes
     JmpSEq {
         lhs: Reg,
         rhs: Reg,

@@ -51,34 +51,37 @@ pub fn byte_one(w: u64) -> usize
 pub fn byte_two(w: u64) -> usize
     ensures { λ r. ⌜ r ≡ partsOf w .two ⌝ }
 {
-    (w / 65536 % 256) as usize
+    (w / 0x1_0000 % 256) as usize
 }
 
 pub fn byte_three(w: u64) -> usize
     ensures { λ r. ⌜ r ≡ partsOf w .three ⌝ }
 {
-    (w / 16777216 % 256) as usize
+    (w / 0x100_0000 % 256) as usize
 }
 
 // Bytes 2 and 3.
 pub fn target(w: u64) -> usize
     ensures { λ r. ⌜ r ≡ partsOf w .target ⌝ }
 {
-    (w / 65536 % 65536) as usize
+    (w / 0x1_0000 % 0x1_0000) as usize
 }
 
 // Bytes 4 to 7.
 pub fn upper(w: u64) -> usize
     ensures { λ r. ⌜ r ≡ partsOf w .number ⌝ }
 {
-    (w / 4294967296 % 4294967296) as usize
+    (w / 0x1_0000_0000 % 0x1_0000_0000) as usize
 }
 
 // As the 64-bit pattern of a signed number.
 pub fn upper_signed(w: u64) -> u64
     ensures { λ r. ⌜ r ≡ partsOf w .signed ⌝ }
 {
-    std::num::wrapping_sub_u64((w / 4294967296 + 2147483648) % 4294967296, 2147483648)
+    std::num::wrapping_sub_u64(
+        (w / 0x1_0000_0000 + 0x8000_0000) % 0x1_0000_0000,
+        0x8000_0000,
+    )
 }
 
 pub fn is_alignment(n: usize) -> bool

@@ -25,7 +25,8 @@ agree (suc f) zero h [] p q = refl
 agree (suc f) zero h (b ∷ bs) p q = absurd (not-suc-le-zero q)
 agree (suc f) (suc g) h [] p q = refl
 agree (suc f) (suc g) h (b ∷ bs) p q =
-    agree f g (mixed h (valueOf (take 8 (b ∷ bs)))) (drop 8 (b ∷ bs)) (le-trans (rest-le b bs) (le-of-suc-le-suc p)) (le-trans (rest-le b bs) (le-of-suc-le-suc q))
+    agree f g (mixed h (valueOf (take 8 (b ∷ bs)))) (drop 8 (b ∷ bs)) (le-trans (rest-le b bs) (le-of-suc-le-suc p))
+    (le-trans (rest-le b bs) (le-of-suc-le-suc q))
 
 -- the hash so far, with the chunks of bs still to come
 unfoldable pub left : ℕ → List ℕ → ℕ
@@ -34,7 +35,8 @@ left h bs = chunks (length bs) h bs
 turn : (h : ℕ) (bs : List ℕ) → 0 < length bs → left h bs ≡ left (mixed h (valueOf (take 8 bs))) (drop 8 bs)
 unfolding left chunks
 turn h [] p = absurd (not-suc-le-zero p)
-turn h (b ∷ bs) p = agree (length bs) (length (drop 8 (b ∷ bs))) (mixed h (valueOf (take 8 (b ∷ bs)))) (drop 8 (b ∷ bs)) (rest-le b bs) (le-refl (length (drop 8 (b ∷ bs))))
+turn h (b ∷ bs) p = agree (length bs) (length (drop 8 (b ∷ bs))) (mixed h (valueOf (take 8 (b ∷ bs)))) (drop 8 (b ∷ bs)) (rest-le b bs)
+    (le-refl (length (drop 8 (b ∷ bs))))
 
 none-left : (h : ℕ) (bs : List ℕ) → length bs ≤ 0 → left h bs ≡ h
 unfolding left chunks
@@ -66,7 +68,8 @@ module _ (bytes : List ℕ) where
           is = ap₂ left (q ∙ ap (mixed h) p) (sym (drop-drop 8 at bytes)) ∙ sym (turn h (drop at bytes) k) ∙ g .is;
         }
 
-    pub hash-last : (w x r : ℕ) → at < length bytes → length bytes - at < 8 → w ≡ valueOf (take (length bytes - at) (drop at bytes)) → x ≡ mixed h w → r ≡ folded x → r ≡ hashOf bytes
+    pub hash-last : (w x r : ℕ) → at < length bytes → length bytes - at < 8 → w ≡ valueOf (take (length bytes - at) (drop at bytes))
+        → x ≡ mixed h w → r ≡ folded x → r ≡ hashOf bytes
     unfolding hashOf left
     hash-last w x r l k p q e =
         let n : length (drop at bytes) ≡ length bytes - at = length-drop at bytes in

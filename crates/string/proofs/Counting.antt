@@ -11,7 +11,7 @@ use lib.Dec.{leb, eqb}
 use borrow.Author.Tests.{eq-eqb, ne-eqb, eqb-true, leb-true}
 use Rattle.memory.proofs.Tests.{both, leb-minus}
 use Rattle.string.specs.Payload.{reaches}
-use Rattle.string.specs.Sound.{slotCount, activeOk, filledIn, headerIn, headersIn, countOk, slotsOk}
+use Rattle.string.specs.Sound.{slotCount, activeOk, filledIn, headersIn, countOk, slotsOk}
 
 -- of the first i slots so many are filled, each with its header in pushed pages
 pub record Counting (base n : ℕ) (slots : List ℕ) (filled i : ℕ) : Type 0 where
@@ -29,12 +29,12 @@ module _ (base n : ℕ) (slots : List ℕ) where
     unfolding filledIn
     count-turn h = rw (add-one, drop-cons slots i 0) refl
 
-    heads-turn : i < length slots → headersIn base n (drop i slots) ≡ (headerIn (eqb (getD slots i 0) 0) base n (getD slots i 0) && headersIn base n (drop (i + 1) slots))
+    heads-turn : i < length slots → headersIn base n (drop i slots)
+        ≡ ((eqb (getD slots i 0) 0 || reaches base n (getD slots i 0) 8) && headersIn base n (drop (i + 1) slots))
     unfolding headersIn
     heads-turn h = rw (add-one, drop-cons slots i 0) refl
 
     pub counting-skip : (m : ℕ) → i < length slots → getD slots i 0 ≡ 0 → m ≡ filled → Counting base n slots m (i + 1)
-    unfolding headerIn
     counting-skip m h e q =
         let few = g .few in
         let counts = g .counts in
@@ -42,8 +42,8 @@ module _ (base n : ℕ) (slots : List ℕ) where
         let t = rw (eq-eqb _ _ e) at (heads-turn h) in
         record { within = omega arith; few = omega arith; counts = omega (arith, c, counts); heads = sym t ∙ g .heads }
 
-    pub counting-one : (m : ℕ) → i < length slots → (getD slots i 0 ≡ 0 → ⊥) → reaches base n (getD slots i 0) 8 ≡ true → m ≡ filled + 1 → Counting base n slots m (i + 1)
-    unfolding headerIn
+    pub counting-one : (m : ℕ) → i < length slots → (getD slots i 0 ≡ 0 → ⊥) → reaches base n (getD slots i 0) 8 ≡ true → m ≡ filled + 1
+        → Counting base n slots m (i + 1)
     counting-one m h e k q =
         let few = g .few in
         let counts = g .counts in
@@ -51,8 +51,9 @@ module _ (base n : ℕ) (slots : List ℕ) where
         let t = rw (ne-eqb _ _ e, k) at (heads-turn h) in
         record { within = omega arith; few = omega arith; counts = omega (arith, c, counts); heads = sym t ∙ g .heads }
 
-    pub bad-header : (len : ℕ) → i < length slots → (getD slots i 0 ≡ 0 → ⊥) → reaches base n (getD slots i 0) 8 ≡ false → false ≡ slotsOk base n len slots
-    unfolding slotsOk headerIn
+    pub bad-header : (len : ℕ) → i < length slots → (getD slots i 0 ≡ 0 → ⊥) → reaches base n (getD slots i 0) 8 ≡ false
+        → false ≡ slotsOk base n len slots
+    unfolding slotsOk
     bad-header len h e k = let t = rw (ne-eqb _ _ e, k) at (heads-turn h) in rw (sym (g .heads) ∙ t) refl
 
     -- at the end
@@ -85,7 +86,8 @@ pub record Power (n : ℕ) : Type 0 where
 
 pub slot-power : (n : ℕ) → slotCount n ≡ true → Power n
 unfolding slotCount
-slot-power n e = at 64 6 refl _ (λ a. at 128 7 refl _ (λ b. at 256 8 refl _ (λ c. at 512 9 refl _ (λ d. at 1024 10 refl _ (λ f. at 2048 11 refl _ (λ g. last g) f) d) c) b) a) e
+slot-power n e = at 64 6 refl _
+    (λ a. at 128 7 refl _ (λ b. at 256 8 refl _ (λ c. at 512 9 refl _ (λ d. at 1024 10 refl _ (λ f. at 2048 11 refl _ (λ g. last g) f) d) c) b) a) e
   where
     at : (m k : ℕ) → m ≡ 2 ^ k → (rest : Bool) → (rest ≡ true → Power n) → (eqb n m || rest) ≡ true → Power n
     at m k p rest f e = go (eqb n m) refl e

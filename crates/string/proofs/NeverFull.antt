@@ -42,13 +42,15 @@ module _ (hit : ℕ → Bool) (t : List ℕ) (k : ℕ) (p : length t ≡ 2 ^ k) 
     -- d slots on, before the end
     ahead : (d m i : ℕ) → i + d ≡ j → d < m → probe hit t m i ≡ Full → ⊥
     ahead d zero i e l = absurd (omega arith)
-    ahead zero (suc m) i e l = λ q. let s : i ≡ j = omega arith in let y = probe-vacant hit t m i (ap (λ (x : ℕ). getD t x 0) s ∙ z) in let n : _≡_ {A = ℕ} 0 1 = cc in omega arith
+    ahead zero (suc m) i e l = λ q. let s : i
+        ≡ j = omega arith in let y = probe-vacant hit t m i (ap (λ (x : ℕ). getD t x 0) s ∙ z) in let n : _≡_ {A = ℕ} 0 1 = cc in omega arith
     ahead (suc d) (suc m) i e l = not-full m i (ahead d m (home (i + 1) (length t)) (rw (next-is (i + 1) (omega arith)) (omega arith)) (omega arith))
 
     -- round the end
     round : (d m i : ℕ) → i + suc d ≡ length t → suc d + j < m → probe hit t m i ≡ Full → ⊥
     round d zero i e l = absurd (omega arith)
-    round zero (suc m) i e l = not-full m i (ahead j m (home (i + 1) (length t)) (rw (ap (λ (x : ℕ). home x (length t)) (one-on i e) ∙ wraps) (omega arith)) (omega arith))
+    round zero (suc m) i e l = not-full m i
+        (ahead j m (home (i + 1) (length t)) (rw (ap (λ (x : ℕ). home x (length t)) (one-on i e) ∙ wraps) (omega arith)) (omega arith))
       where
         one-on : (i : ℕ) → i + suc zero ≡ length t → i + 1 ≡ length t
         one-on i e = omega arith
@@ -59,7 +61,8 @@ module _ (hit : ℕ → Bool) (t : List ℕ) (k : ℕ) (p : length t ≡ 2 ^ k) 
     meets c = go (leb (home c (length t)) j) refl
       where
         go : (b : Bool) → leb (home c (length t)) j ≡ b → probe hit t (length t) (home c (length t)) ≡ Full → ⊥
-        go true e = let l = leb-true (home c (length t)) j e in ahead (j - home c (length t)) (length t) (home c (length t)) (omega arith) (omega arith)
+        go true e = let l = leb-true (home c (length t)) j e in ahead (j - home c (length t)) (length t) (home c (length t)) (omega arith)
+            (omega arith)
         go false e =
             let l = leb-false (home c (length t)) j e in
             let u = home-lt c (length t) (omega arith) in
@@ -86,7 +89,8 @@ never-full hit t k len c p e h =
     meets hit t k p (r .at) (r .in-it) (r .is) c
 
 -- probing a sound table that has slots comes to the value or to an empty slot
-pub probing-ends : (hit : ℕ → Bool) (base n : ℕ) (t : StrTable) (slots : List ℕ) (c : ℕ) → soundOf base n t slots ≡ true → (t .active ≡ 0 → ⊥) → lookup hit (take (t .active) slots) c ≡ Full → ⊥
+pub probing-ends : (hit : ℕ → Bool) (base n : ℕ) (t : StrTable) (slots : List ℕ) (c : ℕ) → soundOf base n t slots ≡ true
+    → (t .active ≡ 0 → ⊥) → lookup hit (take (t .active) slots) c ≡ Full → ⊥
 unfolding soundOf activeOk slotsOk countOk
 probing-ends hit base n t slots c e some =
     let all = both (leb (t .active) (length slots) && (eqb (t .active) 0 || slotCount (t .active))) _ e in

@@ -37,7 +37,11 @@ module _ (hit : ℕ → Bool) (t : List ℕ) where
 
   pub probing-start : (h : ℕ) → (length t ≡ 0 → ⊥) → Probing h 0 (home h (length t))
   unfolding lookup
-  probing-start h e = record { within = omega arith; here = home-lt h (length t) (omega arith); same = ap (λ (m : ℕ). probe hit t m (home h (length t))) (omega arith) }
+  probing-start h e = record {
+    within = omega arith;
+    here = home-lt h (length t) (omega arith);
+    same = ap (λ (m : ℕ). probe hit t m (home h (length t))) (omega arith);
+  }
 
   module _ (h k i : ℕ) (g : Probing h k i) where
     pub probing-end : length t ≤ k → Full ≡ lookup hit t h
@@ -53,7 +57,8 @@ module _ (hit : ℕ → Bool) (t : List ℕ) where
     pub stops-found : (b : Bool) → k < length t → (getD t i 0 ≡ 0 → ⊥) → b ≡ hit (getD t i 0) → b ≡ true → Found (getD t i 0) ≡ lookup hit t h
     stops-found b e q p r = sym (probe-found (length t - (k + 1)) i q (sym p ∙ r)) ∙ ap (λ (m : ℕ). probe hit t m i) (sym (left-is e)) ∙ g .same
 
-    pub probing-next : (b : Bool) → k < length t → (getD t i 0 ≡ 0 → ⊥) → b ≡ hit (getD t i 0) → b ≡ false → Probing h (k + 1) (home (i + 1) (length t))
+    pub probing-next : (b : Bool) → k < length t → (getD t i 0 ≡ 0 → ⊥) → b ≡ hit (getD t i 0) → b ≡ false
+        → Probing h (k + 1) (home (i + 1) (length t))
     probing-next b e q p r =
         record {
           within = omega arith;

@@ -14,7 +14,8 @@ use Rattle.string.specs.Payload.{smallName}
 use Rattle.string.proofs.Chunks.{left, one-chunk}
 
 pub rotates : (x : ℕ) → x < 2 ^ 64 → bitOr (x * 2 ^ 5 % 2 ^ 64) (x / 2 ^ 59) ≡ rotated x
-rotates x h = ap (λ (y : ℕ). bitOr y (x / 2 ^ 59)) (moved x) ∙ or-shifted (x % 2 ^ 59) 5 (x / 2 ^ 59) (omega arith) ∙ ap (λ (y : ℕ). y + x / 2 ^ 59) (sym (moved x))
+rotates x h = ap (λ (y : ℕ). bitOr y (x / 2 ^ 59)) (moved x) ∙ or-shifted (x % 2 ^ 59) 5 (x / 2 ^ 59) (omega arith)
+    ∙ ap (λ (y : ℕ). y + x / 2 ^ 59) (sym (moved x))
   where
     moved : (x : ℕ) → x * 2 ^ 5 % 2 ^ 64 ≡ x % 2 ^ 59 * 2 ^ 5
     moved x = omega arith
@@ -59,4 +60,5 @@ small-agrees (b ∷ bs) h = ap folded (sym (one-chunk (length (b ∷ bs)) (b ∷
 
 pub small-hash-is : (len word : ℕ) → len ≤ 8 → word < 256 ^ len → smallHashOf len word ≡ hashOf (smallName len word)
 small-hash-is len word h k =
-    ap₂ smallHashOf (sym (small-length len word h)) (sym (small-value len word h k)) ∙ small-agrees (smallName len word) (rw (small-length len word h) h)
+    ap₂ smallHashOf (sym (small-length len word h)) (sym (small-value len word h k))
+    ∙ small-agrees (smallName len word) (rw (small-length len word h) h)

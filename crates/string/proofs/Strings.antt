@@ -12,7 +12,7 @@ use borrow.Author.Tests.{le-leb, lt-leb, leb-true, leb-false, eq-eqb, ne-eqb, no
 use Rattle.memory.specs.Bytes.{bytesOf, valueOf}
 use Rattle.memory.specs.Lists.{over, write, same, part}
 use Rattle.memory.proofs.Tests.{both, leb-minus}
-use Rattle.memory.proofs.Over.{tail-home, write-append, length-write}
+use Rattle.memory.proofs.Over.{tail-returned, write-append, length-write}
 use Rattle.memory.proofs.Bytes.{Bytes, bytes-take, bytes-drop, bytes-bytesOf, length-bytesOf, value-same}
 use Rattle.string.specs.declared.payload.Payload.{Payload}
 use Rattle.string.specs.declared.payload.Payload.the-variants.{At, Other}
@@ -25,16 +25,19 @@ use Rattle.string.proofs.Small.{small-length, small-value}
 behind : (k : ℕ) (bs cs to : List ℕ) → length bs ≡ k → write k cs (write 0 bs to) ≡ write 0 (bs ++ cs) to
 behind k bs cs to e = ap (λ (n : ℕ). write n cs (write 0 bs to)) (sym (zero-add (length bs) ∙ e)) ∙ write-append 0 bs cs to
 
-pub payload-written : (s to one two e : List ℕ) (hash : ℕ) → 8 ≤ length to → one ≡ write 0 (bytesOf 4 (length s)) to → two ≡ write 4 (bytesOf 4 hash) one
+pub payload-written : (s to one two e : List ℕ) (hash : ℕ) → 8 ≤ length to → one ≡ write 0 (bytesOf 4 (length s)) to
+    → two ≡ write 4 (bytesOf 4 hash) one
     → e ≡ over s (take (length two - 8) (drop 8 two)) → take 8 two ++ (e ++ drop (length two - 8) (drop 8 two)) ≡ over (payloadOf s hash) to
 unfolding payloadOf write
 payload-written s to one two e hash h p q r =
     let head = bytesOf 4 (length s) ++ bytesOf 4 hash in
-    let two-is : two ≡ write 0 head to = q ∙ ap (write 4 (bytesOf 4 hash)) p ∙ behind 4 (bytesOf 4 (length s)) (bytesOf 4 hash) to (length-bytesOf 4 (length s)) in
-    let head-long : length head ≡ 8 = length-append (bytesOf 4 (length s)) (bytesOf 4 hash) ∙ ap₂ _+_ (length-bytesOf 4 (length s)) (length-bytesOf 4 hash) in
+    let two-is : two ≡ write 0 head to = q ∙ ap (write 4 (bytesOf 4 hash)) p
+    ∙ behind 4 (bytesOf 4 (length s)) (bytesOf 4 hash) to (length-bytesOf 4 (length s)) in
+    let head-long : length head ≡ 8 = length-append (bytesOf 4 (length s)) (bytesOf 4 hash)
+    ∙ ap₂ _+_ (length-bytesOf 4 (length s)) (length-bytesOf 4 hash) in
     let long : 8 ≤ length two = rw (two-is, length-write 0 head to) h in
     ap (λ (l : List ℕ). take 8 two ++ (l ++ drop (length two - 8) (drop 8 two))) r
-    ∙ tail-home 8 (length two) s two refl long
+    ∙ tail-returned 8 (length two) s two refl long
     ∙ ap (write 8 s) two-is
     ∙ behind 8 head s to head-long
     ∙ ap (λ (l : List ℕ). over l to) (append-assoc (bytesOf 4 (length s)) (bytesOf 4 hash) s)
@@ -70,11 +73,13 @@ header-found base n v found e t = within base n v 8 (sym e ∙ not-false found t
 
 module _ (base : ℕ) (heap : List ℕ) (len hash v : ℕ) where
   -- no header: no string
-  pub no-header : (found : Bool) → found ≡ reaches base (length heap) v 8 → not found ≡ true → Other ≡ bytesFrom (headed base heap len hash v) (v - base + 8)
+  pub no-header : (found : Bool) → found ≡ reaches base (length heap) v 8 → not found ≡ true
+      → Other ≡ bytesFrom (headed base heap len hash v) (v - base + 8)
   unfolding headed bytesFrom reaches
   no-header found i t = go (leb base v) (leb (v - base + 8) (length heap)) refl refl (sym i ∙ not-true found t)
     where
-      go : (t u : Bool) → leb base v ≡ t → leb (v - base + 8) (length heap) ≡ u → (t && u) ≡ false → Other ≡ bytesFrom (headed base heap len hash v) (v - base + 8)
+      go : (t u : Bool) → leb base v ≡ t → leb (v - base + 8) (length heap) ≡ u → (t && u) ≡ false
+          → Other ≡ bytesFrom (headed base heap len hash v) (v - base + 8)
       go false u p q e = rw p refl
       go true true p q e = let z : _≡_ {A = ℕ} 0 1 = cc in absurd (omega arith)
       go true false p q e = let k = leb-false (v - base + 8) (length heap) q in rw (p, lt-leb (v - base + (8 + len)) (length heap) (omega arith)) refl
@@ -92,12 +97,18 @@ module _ (base : ℕ) (heap : List ℕ) (len hash v : ℕ) where
     unfolding headed bytesFrom
     cut-short h = let ends = w .ends in let d = short-outside base (length heap) v (8 + len) (omega arith) in rw (sym d) refl
 
-    pub stands : (x y : ℕ) → x ≡ lengthAt base heap v → x ≡ len → y ≡ hashAt base heap v → y ≡ hash → len ≤ length heap - (v - base + 8) → At (v - base + 8) ≡ bytesFrom (headed base heap len hash v) (v - base + 8)
+    pub stands : (x y : ℕ) → x ≡ lengthAt base heap v → x ≡ len → y ≡ hashAt base heap v → y ≡ hash → len ≤ length heap - (v - base + 8)
+        → At (v - base + 8) ≡ bytesFrom (headed base heap len hash v) (v - base + 8)
     unfolding headed bytesFrom reaches
     stands x y p q r s h =
         let above = w .above in
         let ends = w .ends in
-        rw (le-leb base v above, le-leb (v - base + (8 + len)) (length heap) (omega arith), eq-eqb (lengthAt base heap v) len (sym p ∙ q), eq-eqb (hashAt base heap v) hash (sym r ∙ s)) refl
+        rw (
+          le-leb base v above,
+          le-leb (v - base + (8 + len)) (length heap) (omega arith),
+          eq-eqb (lengthAt base heap v) len (sym p ∙ q),
+          eq-eqb (hashAt base heap v) hash (sym r ∙ s),
+        ) refl
 
 -- ---- compared
 
@@ -134,7 +145,8 @@ module _ (base : ℕ) (heap s : List ℕ) (hash v : ℕ) (p : Payload) (is : p �
         q ∙ rw (k, said .1, said .0) refl
 
 -- the same of a small word
-module _ (base : ℕ) (heap : List ℕ) (len word hash v : ℕ) (few : len ≤ 8) (pad : word < 256 ^ len) (p : Payload) (is : p ≡ bytesFrom (headed base heap len hash v) (v - base + 8)) where
+module _ (base : ℕ) (heap : List ℕ) (len word hash v : ℕ) (few : len ≤ 8) (pad : word < 256 ^ len) (p : Payload)
+    (is : p ≡ bytesFrom (headed base heap len hash v) (v - base + 8)) where
   as-string : p ≡ bytesFrom (headed base heap (length (smallName len word)) hash v) (v - base + 8)
   as-string = is ∙ ap (λ (n : ℕ). bytesFrom (headed base heap n hash v) (v - base + 8)) (sym (small-length len word few))
 
@@ -145,7 +157,8 @@ module _ (base : ℕ) (heap : List ℕ) (len word hash v : ℕ) (few : len ≤ 8
     pub small-ends-in : from + len ≤ length heap
     small-ends-in = rw (small-length len word few) at (ends-in base heap (smallName len word) hash v p as-string from e)
 
-    pub small-there : (x : ℕ) → Bytes heap → x ≡ valueOf (take (from + len - from) (drop from heap)) → eqb x word ≡ holds base heap (smallName len word) hash v
+    pub small-there : (x : ℕ) → Bytes heap → x ≡ valueOf (take (from + len - from) (drop from heap))
+        → eqb x word ≡ holds base heap (smallName len word) hash v
     small-there x bs q =
         let k : from + len - from ≡ len = omega arith in
         let n = small-length len word few in

@@ -1,6 +1,6 @@
 -- Growing the table through the spare slice, and `insert`. Definitions only.
 use Prim.Native.Nat.{ℕ, _+_, _*_}
-use mathlib.Core.Bool.{Bool, true, false}
+use mathlib.Core.Bool.{Bool, true, false, cond}
 use mathlib.Core.List.{List, [], _∷_}
 use lib.ListN.{length, take, replicate}
 use lib.Dec.{leb, ltb, eqb}
@@ -10,12 +10,8 @@ use Rattle.string.specs.Payload.{reaches, hashAt}
 use Rattle.string.specs.Table.{placed}
 
 -- the hash in the header at v; no sound table holds a v whose header is not in pushed pages
-unfoldable pub read : Bool → ℕ → List ℕ → ℕ → ℕ
-read true base heap v = hashAt base heap v
-read false base heap v = 0
-
 unfoldable pub storedHash : ℕ → List ℕ → ℕ → ℕ
-storedHash base heap v = read (reaches base (length heap) v 8) base heap v
+storedHash base heap v = cond (reaches base (length heap) v 8) (hashAt base heap v) 0
 
 -- 'replacing the old ones in slot order': each value of the old slots placed into the new by the hash in its header
 unfoldable pub movedOne : Bool → ℕ → List ℕ → ℕ → List ℕ → List ℕ
@@ -28,26 +24,21 @@ moved base heap (v ∷ old) slots = moved base heap old (movedOne (eqb v 0) base
 
 -- 'First `insert` makes 64 slots. 32 strings fit; the 33rd makes 128': as many slots as there are while they hold one name more and
 -- are at most half full with it, else 64 or twice as many
-unfoldable pub enlarged : Bool → Bool → ℕ → ℕ
-enlarged true empty active = active
-enlarged false true active = 64
-enlarged false false active = active * 2
-
 unfoldable pub roomOf : ℕ → ℕ → ℕ
-roomOf active len = enlarged (leb ((len + 1) * 2) active) (eqb active 0) active
+roomOf active len = cond (leb ((len + 1) * 2) active) active (cond (eqb active 0) 64 (active * 2))
 
 -- the active slots, brought to so many
 unfoldable pub widened : Bool → ℕ → List ℕ → List ℕ → ℕ → List ℕ
 widened true base heap slots room = moved base heap slots (replicate room 0)
 widened false base heap slots room = slots
 
-unfoldable pub roomy : ℕ → List ℕ → List ℕ → ℕ → List ℕ
-roomy base heap slots room = widened (ltb (length slots) room) base heap slots room
+unfoldable pub withRoom : ℕ → List ℕ → List ℕ → ℕ → List ℕ
+withRoom base heap slots room = widened (ltb (length slots) room) base heap slots room
 
 -- 'after growth it begins with the old slots, otherwise untouched'
-unfoldable pub spared : Bool → List ℕ → List ℕ → List ℕ
-spared true old spare = over old spare
-spared false old spare = spare
+unfoldable pub spareAfter : Bool → List ℕ → List ℕ → List ℕ
+spareAfter true old spare = over old spare
+spareAfter false old spare = spare
 
 -- ---- over lent slices
 
@@ -67,5 +58,5 @@ insertOf base heap hash v t slots spare =
     let old = take (t .active) slots in
     inserted
     (record { active = room; len = t .len + 1 })
-    (over (placed hash v (roomy base heap old room)) slots)
-    (spared (ltb (t .active) room) old spare)
+    (over (placed hash v (withRoom base heap old room)) slots)
+    (spareAfter (ltb (t .active) room) old spare)

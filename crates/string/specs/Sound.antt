@@ -21,13 +21,9 @@ filledIn [] = 0
 filledIn (v ∷ slots) = cond (eqb v 0) 0 1 + filledIn slots
 
 -- 'a filled slot whose header isn't in pushed pages', of which there are n bytes
-unfoldable pub headerIn : Bool → ℕ → ℕ → ℕ → Bool
-headerIn true base n v = true
-headerIn false base n v = reaches base n v 8
-
 unfoldable pub headersIn : ℕ → ℕ → List ℕ → Bool
 headersIn base n [] = true
-headersIn base n (v ∷ slots) = headerIn (eqb v 0) base n v && headersIn base n slots
+headersIn base n (v ∷ slots) = (eqb v 0 || reaches base n v 8) && headersIn base n slots
 
 -- 'the stored count unequal to the filled slots, or doubled above them'
 unfoldable pub countOk : ℕ → List ℕ → Bool

@@ -18,7 +18,10 @@ probe hit slots zero i = Full
 probe hit slots (suc more) i =
     elim (eqb (getD slots i 0) 0) [
       | true ↦ Vacant i
-      | false ↦ elim (hit (getD slots i 0)) [ true ↦ Found (getD slots i 0) | false ↦ probe hit slots more (home (i + 1) (length slots)) ]
+      | false ↦ elim (hit (getD slots i 0)) [
+        | true ↦ Found (getD slots i 0)
+        | false ↦ probe hit slots more (home (i + 1) (length slots))
+      ]
     ]
 
 -- from the hash's own slot on, over the whole table

@@ -1,7 +1,7 @@
-// Strings in the heap and the table that makes equal names share one address.
+// Strings in the heap, and the table in which names are interned.
 pub mod fxhash;
 pub mod payload;
 pub mod table;
 
-// A payload's alignment, which the keys of a `Switch` over strings lie apart.
-pub const ALIGN: usize = 4;
+// A payload's alignment: keys of a table over strings lie so far apart.
+pub const ALIGN: u64 = 4;

@@ -22,7 +22,7 @@ pub fn write_payload(to: &mut [u8], s: &[u8], hash: u32)
 {
     memory::store4(to, 0, s.len() as u64);
     memory::store4(to, 4, hash as u64);
-    memory::copy_bytes(s, &mut to[8..]);
+    memory::copy_bytes(s, &mut to[HEADER_SIZE..]);
 }
 
 // Two equally long byte strings, by 8 bytes as long as there are as many.

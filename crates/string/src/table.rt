@@ -7,7 +7,7 @@ ghost use lib.Dec.{ltb};
 ghost use Rattle.memory.specs.Lists.{over};
 ghost use Rattle.string.specs.Payload.{holds, smallName};
 ghost use Rattle.string.specs.Table.{lookup, placed};
-ghost use Rattle.string.specs.Grow.{storedHash, moved, roomy, spared, roomOf, inserted, insertOf};
+ghost use Rattle.string.specs.Grow.{storedHash, moved, withRoom, spareAfter, roomOf, inserted, insertOf};
 ghost use Rattle.string.specs.Sound.{slotCount, activeOk, slotsOk, soundOf};
 use crate::payload::header_in;
 use crate::payload::is_small;
@@ -126,7 +126,8 @@ fn place_all(base: u64, heap: &[u8], old: &[u64], slots: &mut [u64])
 // From `active` slots to `room`: the old ones go to the spare slice, and from there into the new.
 fn rehash(base: u64, heap: &[u8], active: usize, room: usize, slots: &mut [u64], spare: &mut [u64])
     requires { ⌜ (active ≤ room) × (room ≤ length (now slots)) × (active ≤ length (now spare)) ⌝ }
-    ensures { λ _. ⌜ now (slots .exit) ≡ over (moved base (now (heap .entry)) (take active (now (slots .entry))) (replicate room 0)) (now (slots .entry)) ⌝ }
+    ensures { λ _. ⌜ now (slots .exit)
+        ≡ over (moved base (now (heap .entry)) (take active (now (slots .entry))) (replicate room 0)) (now (slots .entry)) ⌝ }
     ensures { λ _. ⌜ now (spare .exit) ≡ over (take active (now (slots .entry))) (now (spare .entry)) ⌝ }
 {
     memory::copy_words(&slots[..active], spare);
@@ -144,8 +145,9 @@ fn make_room(
     spare: &mut [u64],
 )
     requires { ⌜ (active ≤ room) × (room ≤ length (now slots)) × (active ≤ length (now spare)) ⌝ }
-    ensures { λ _. ⌜ now (slots .exit) ≡ over (roomy base (now (heap .entry)) (take active (now (slots .entry))) room) (now (slots .entry)) ⌝ }
-    ensures { λ _. ⌜ now (spare .exit) ≡ spared (ltb active room) (take active (now (slots .entry))) (now (spare .entry)) ⌝ }
+    ensures { λ _. ⌜ now (slots .exit)
+        ≡ over (withRoom base (now (heap .entry)) (take active (now (slots .entry))) room) (now (slots .entry)) ⌝ }
+    ensures { λ _. ⌜ now (spare .exit) ≡ spareAfter (ltb active room) (take active (now (slots .entry))) (now (spare .entry)) ⌝ }
 {
     if active < room {
         rehash(base, heap, active, room, slots, spare);
@@ -232,8 +234,12 @@ impl StrTable {
         slots: &mut [u64],
         spare: &mut [u64],
     ) -> StrTable
-        requires { ⌜ (self .len ≤ self .active) × (roomOf (self .active) (self .len) ≤ length (now slots)) × (length (now slots) ≤ 4096) × (length (now spare) ≡ length (now slots)) ⌝ }
-        ensures { λ r. ⌜ inserted r (now (slots .exit)) (now (spare .exit)) ≡ insertOf base (now (heap .entry)) hash v self (now (slots .entry)) (now (spare .entry)) ⌝ }
+        requires { ⌜ (self .len ≤ self .active)
+            × (roomOf (self .active) (self .len) ≤ length (now slots))
+            × (length (now slots) ≤ 4096)
+            × (length (now spare) ≡ length (now slots)) ⌝ }
+        ensures { λ r. ⌜ inserted r (now (slots .exit)) (now (spare .exit))
+            ≡ insertOf base (now (heap .entry)) hash v self (now (slots .entry)) (now (spare .entry)) ⌝ }
     {
         let active = self.active;
         let len = self.len;

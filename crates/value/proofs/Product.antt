@@ -1,7 +1,9 @@
 -- The product of two numbers of two digits each, to any base P, modulo P * P: from its two lower digits. Assumes nothing.
 use mathlib.Core.Path.{_≡_, refl, sym, ap, ap₂, _∙_}
 use Prim.Native.Nat.{ℕ, zero, _+_, _*_, _/_, _%_, _<_, _^_}
-use native.Mathlib.Nat.{add-assoc, add-comm, add-left-comm, mul-assoc, mul-comm, mul-left-comm, mul-add, add-mul, mod-add-mod, mul-add-mod-self-right, mul-add-div-right, mul-div-left, mul-mod-left, add-zero, div-add-mod', le-of-lt, lt-of-le-of-lt, mul-lt-mul-of-pos-left, mul-le-mul-right}
+use native.Mathlib.Nat.{add-assoc, add-comm, add-left-comm, mul-assoc, mul-comm, mul-left-comm, mul-add, add-mul, mod-add-mod}
+use native.Mathlib.Nat.{mul-add-mod-self-right, mul-add-div-right, mul-div-left, mul-mod-left, add-zero, div-add-mod', le-of-lt}
+use native.Mathlib.Nat.{lt-of-le-of-lt, mul-lt-mul-of-pos-left, mul-le-mul-right}
 use native.Mathlib.Omega.{arith}
 use lib.Arith.{mod-mul}
 use lib.Pow.{pow-pos}

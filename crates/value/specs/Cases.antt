@@ -38,8 +38,9 @@ rows =
     ∷ (shown (remainderOf (2 ^ 63) 0), end 1)
     ∷ (shown (quotientOf (2 ^ 63) (minus 1)), end 7)
     ∷ (shown (remainderOf (2 ^ 63) (minus 1)), end 7)
-    -- CastToDouble: -2^63
+    -- CastToDouble: -2^63, and a tie below 0
     ∷ (castToDouble (2 ^ 63), 0xc3e0_0000_0000_0000)
+    ∷ (castToDouble (minus (2 ^ 53 + 1)), 0xc340_0000_0000_0000)
     -- CastToBool: the pattern of -0.0 is true; BEq: 2 and 1 are equal
     ∷ (castToBool 0x8000_0000_0000_0000, 1)
     ∷ (bit (Bool·beq (truth 2) (truth 1)), 1)

@@ -115,7 +115,7 @@ impl Value {
         Value::MIN
     }
 
-    // SEq: strings are interned, so equal contents are equal values.
+    // SEq compares values: a name is interned once.
     pub fn str_eq(self, other: Value) -> bool
         ensures { λ r. ⌜ r ≡ eqb (self .0) (other .0) ⌝ }
     {

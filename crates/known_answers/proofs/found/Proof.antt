@@ -1,12 +1,12 @@
 -- `known_answers::found` meets its contract. Assumes nothing.
 use native.Mathlib.Omega.{arith}
-use Rattle.string.specs.Grow.{roomOf, enlarged}
+use Rattle.string.specs.Grow.{roomOf}
 use borrow.Author.Needs.{needs}
 use Rattle.known_answers.proofs.found.Statement.{statement}
 use Rattle.known_answers.proofs.found.Tie as tie
 
 insert-requires : tie.Need-insert-requires
-unfolding roomOf enlarged
+unfolding roomOf
 insert-requires c κs = (omega arith, omega arith, omega arith, omega arith)
 
 pub found-spec : {M : Type 1} → statement M

@@ -11,8 +11,17 @@ returns c =
     let wide = c .before .before in
     let start = wide .before .before .before in
     let s = start .args .s .now in
-    let at = start .args .at in
-    (omega (arith, wide .wide .ensures, c .wide2 .ensures, number-add 1 1 at s (search needs), number-one at s (search needs), number-one (at + 1) s (search needs)), search needs)
+    let at = start .args .at in (
+      omega (
+        arith,
+        wide .wide .ensures,
+        c .wide2 .ensures,
+        number-add 1 1 at s (search needs),
+        number-one at s (search needs),
+        number-one (at + 1) s (search needs),
+      ),
+      search needs,
+    )
 
 pub load2-spec : {M : Type 1} → statement M
 load2-spec =

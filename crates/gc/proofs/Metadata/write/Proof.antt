@@ -15,7 +15,8 @@ returns c =
     let store8 = wide .before .before .before .before in
     let start = store8 .before .before .before in
     let m = start .args .self in
-    store82 .store82 .ensures ∙ ap (write 8 (bytesOf 8 (wide .wide .result))) (store8 .store8 .ensures) ∙ header-written (m .size) (m .flags) (wide .wide .result) (start .args .to .now) (wide .wide .ensures .0) (omega (arith, wide .wide .ensures))
+    store82 .store82 .ensures ∙ ap (write 8 (bytesOf 8 (wide .wide .result))) (store8 .store8 .ensures)
+    ∙ header-written (m .size) (m .flags) (wide .wide .result) (start .args .to .now) (wide .wide .ensures .0) (omega (arith, wide .wide .ensures))
 
 pub write-spec : {M : Type 1} → statement M
 write-spec =

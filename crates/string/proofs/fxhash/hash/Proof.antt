@@ -26,7 +26,8 @@ returns c =
     let if1 = small-word .before .before in
     let loop-test = if1 .before in
     let loop = loop-test .before in
-    hash-last _ _ _ (loop .loop .inv) _ _ _ (if1 .if1 .taken) (loop-test .loop-test .left) (small-word .small-word .ensures) (mix2 .mix2 .ensures) (c .fold .ensures)
+    hash-last _ _ _ (loop .loop .inv) _ _ _ (if1 .if1 .taken) (loop-test .loop-test .left) (small-word .small-word .ensures)
+    (mix2 .mix2 .ensures) (c .fold .ensures)
 
 returns-2 : tie.Need-returns-2 Inv-loop μ-loop
 returns-2 c =

@@ -16,7 +16,9 @@ add-to c =
     let from = c .before in
     let bytes-of = from .before .before in
     let start = bytes-of .before .before in
-    record { fits = omega (arith, small-ends-in _ _ _ _ _ _ (start .pre .0) (start .pre .1) _ (bytes-of .bytes-of .ensures) _ (from .from .given .1)) }
+    record {
+      fits = omega (arith, small-ends-in _ _ _ _ _ _ (start .pre .0) (start .pre .1) _ (bytes-of .bytes-of .ensures) _ (from .from .given .1));
+    }
 
 part-small-word-end : tie.Need-part-small-word-end
 part-small-word-end c =
@@ -31,7 +33,8 @@ returns-2 c =
     let bytes-of = from .before .before in
     let shared-slice-known = bytes-of .before in
     let start = shared-slice-known .before in
-    small-there _ _ _ _ _ _ (start .pre .0) (start .pre .1) _ (bytes-of .bytes-of .ensures) _ (from .from .given .1) _ (λ i. omega (arith, shared-slice-known .shared-slice-known .given i)) (c .small-word .ensures)
+    small-there _ _ _ _ _ _ (start .pre .0) (start .pre .1) _ (bytes-of .bytes-of .ensures) _ (from .from .given .1) _
+    (λ i. omega (arith, shared-slice-known .shared-slice-known .given i)) (c .small-word .ensures)
 
 pub is-small-spec : {M : Type 1} → statement M
 is-small-spec =

@@ -11,7 +11,8 @@ returns c =
     let store42 = copy-bytes .before .before .before .before in
     let store4 = store42 .before .before .before .before in
     let start = store4 .before .before .before .before in
-    payload-written (start .args .s .now) (start .args .to .now) _ _ _ (start .args .hash) (omega (arith, (start .pre))) (store4 .store4 .ensures) (store42 .store42 .ensures) (copy-bytes .copy-bytes .ensures)
+    payload-written (start .args .s .now) (start .args .to .now) _ _ _ (start .args .hash) (omega (arith, (start .pre)))
+    (store4 .store4 .ensures) (store42 .store42 .ensures) (copy-bytes .copy-bytes .ensures)
 
 pub write-payload-spec : {M : Type 1} → statement M
 write-payload-spec =

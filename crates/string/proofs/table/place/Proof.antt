@@ -33,15 +33,21 @@ returns-2 c =
     let start = loop .before .before in
     let same = loop .loop .inv .0 in
     ap (λ (l : List ℕ). set l (loop .loop .i) (start .args .v)) same
-    ∙ placed-is _ _ _ (Vacant (loop .loop .i)) (stops-vacant never _ _ _ _ (loop .loop .inv .1) (loop-test .loop-test .taken) (ap (λ (l : List ℕ). getD l (loop .loop .i) 0) (sym same) ∙ c .if2 .taken))
+    ∙ placed-is _ _ _ (Vacant (loop .loop .i))
+    (stops-vacant never _ _ _ _ (loop .loop .inv .1) (loop-test .loop-test .taken)
+    (ap (λ (l : List ℕ). getD l (loop .loop .i) 0) (sym same) ∙ c .if2 .taken))
 
 loop-again : tie.Need-loop-again Inv-loop μ-loop
 unfolding home never
 loop-again c =
     let loop-test = c .before .before in
     let loop = loop-test .before in
-    let same = loop .loop .inv .0 in
-    (same, probing-next never _ _ _ _ (loop .loop .inv .1) false (loop-test .loop-test .taken) (λ e. c .if2 .left (ap (λ (l : List ℕ). getD l (loop .loop .i) 0) same ∙ e)) refl refl, loop .loop .inv .2)
+    let same = loop .loop .inv .0 in (
+      same,
+      probing-next never _ _ _ _ (loop .loop .inv .1) false (loop-test .loop-test .taken)
+          (λ e. c .if2 .left (ap (λ (l : List ℕ). getD l (loop .loop .i) 0) same ∙ e)) refl refl,
+      loop .loop .inv .2,
+    )
 
 returns-3 : tie.Need-returns-3 Inv-loop μ-loop
 unfolding filled

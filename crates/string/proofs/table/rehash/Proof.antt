@@ -17,22 +17,27 @@ slice-aggregate-place-all c =
     let clear-words = c .before .before .before in
     let copy-words = clear-words .before .before .before .before in
     let start = copy-words .before .before .before .before .before .before in
-    spare-there (start .args .base) (start .args .heap .now) _ _ _ _ (start .pre .0) (start .pre .1) (start .pre .2) _ _ (copy-words .copy-words .ensures) (clear-words .clear-words .ensures)
+    spare-there (start .args .base) (start .args .heap .now) _ _ _ _ (start .pre .0) (start .pre .1) (start .pre .2) _ _
+    (copy-words .copy-words .ensures) (clear-words .clear-words .ensures)
 
 slice-aggregate-place-all-2 : tie.Need-slice-aggregate-place-all-2
 slice-aggregate-place-all-2 c =
     let clear-words = c .before .before .before .before in
     let copy-words = clear-words .before .before .before .before in
     let start = copy-words .before .before .before .before .before .before in
-    front-there (start .args .base) (start .args .heap .now) _ _ _ _ (start .pre .0) (start .pre .1) (start .pre .2) _ _ (copy-words .copy-words .ensures) (clear-words .clear-words .ensures)
+    front-there (start .args .base) (start .args .heap .now) _ _ _ _ (start .pre .0) (start .pre .1) (start .pre .2) _ _
+    (copy-words .copy-words .ensures) (clear-words .clear-words .ensures)
 
 returns : tie.Need-returns
 returns c =
     let place-all = c .before .before in
     let clear-words = place-all .before .before .before .before .before in
     let copy-words = clear-words .before .before .before .before in
-    let start = copy-words .before .before .before .before .before .before in
-    (rehashed _ _ _ _ _ _ (start .pre .0) (start .pre .1) (start .pre .2) _ _ (copy-words .copy-words .ensures) (clear-words .clear-words .ensures) _ (place-all .place-all .ensures), copy-words .copy-words .ensures)
+    let start = copy-words .before .before .before .before .before .before in (
+      rehashed _ _ _ _ _ _ (start .pre .0) (start .pre .1) (start .pre .2) _ _ (copy-words .copy-words .ensures)
+          (clear-words .clear-words .ensures) _ (place-all .place-all .ensures),
+      copy-words .copy-words .ensures,
+    )
 
 pub rehash-spec : {M : Type 1} → statement M
 rehash-spec =

@@ -22,14 +22,16 @@ returns c =
     let if1 = header-in .before in
     let loop-test = if1 .before .before in
     let loop = loop-test .before in
-    bad-header _ _ _ _ _ (loop .loop .inv) _ (loop-test .loop-test .taken) (if1 .if1 .taken) (sym (header-in .header-in .ensures) ∙ not-true _ (c .if2 .taken))
+    bad-header _ _ _ _ _ (loop .loop .inv) _ (loop-test .loop-test .taken) (if1 .if1 .taken)
+    (sym (header-in .header-in .ensures) ∙ not-true _ (c .if2 .taken))
 
 loop-again : tie.Need-loop-again Inv-loop μ-loop
 loop-again c =
     let loop-test = c .before .before in
     let loop = loop-test .before in
     ⊎-elim
-    (λ w. counting-one _ _ _ _ _ (loop .loop .inv) _ (loop-test .loop-test .taken) (w .0 .taken) (sym (w .1 .ensures) ∙ not-false _ (w .2 .left)) (w .3))
+    (λ w. counting-one _ _ _ _ _ (loop .loop .inv) _ (loop-test .loop-test .taken) (w .0 .taken)
+    (sym (w .1 .ensures) ∙ not-false _ (w .2 .left)) (w .3))
     (λ w. counting-skip _ _ _ _ _ (loop .loop .inv) _ (loop-test .loop-test .taken) (w .0 .left) (w .1))
     (c .if1 .came)
 

@@ -27,7 +27,9 @@ slice-aggregate-place c =
 
 add-t18 : tie.Need-add-t18
 add-t18 c =
-    let start = c .before .before .before .before .before .before .before .before .before .before .before .before .before .before .before in
+    let make-room = c .before .before .before .before .before .before .before .before in
+    let room = make-room .before .before .before in
+    let start = room .before .before .before .before in
     let holds = room-holds (start .args .self .active) (start .args .self .len) (start .pre .0) in
     record { fits = omega (arith, holds .1) }
 
@@ -37,7 +39,8 @@ returns c =
     let make-room = place .before .before .before .before .before .before in
     let room = make-room .before .before .before in
     let start = room .before .before .before .before in
-    insert-is _ _ (start .args .self) _ _ (room .room .ensures) (start .pre .0) (start .pre .1) _ _ _ _ _ _ (make-room .make-room .ensures .0) (make-room .make-room .ensures .1) (place .place .ensures)
+    insert-is _ _ (start .args .self) _ _ (room .room .ensures) (start .pre .0) (start .pre .1) _ _ _ _ _ _
+    (make-room .make-room .ensures .0) (make-room .make-room .ensures .1) (place .place .ensures)
 
 pub insert-spec : {M : Type 1} → statement M
 insert-spec =
