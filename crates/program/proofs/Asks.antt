@@ -9,7 +9,7 @@ use lib.ListN.{length, getD, length-take, length-drop, List·getD-eq-default}
 use lib.Seq.{getD-take, getD-drop}
 use lib.Dec.{leb, ltb, eqb}
 use borrow.Author.Tests.{leb-true, eqb-true, ltb-true, ltb-false, lt-ltb, le-ltb, eq-eqb, ne-eqb}
-use Rattle.anomaly.proofs.Numbers.{both}
+use Rattle.memory.proofs.Tests.{both}
 use Rattle.program.specs.declared.Effect.{Effect}
 use Rattle.program.specs.declared.Effect.the-variants as effect
 use Rattle.program.specs.declared.effects.Entry.{Entry}

@@ -56,7 +56,8 @@ module _ (n : Counts) (code : List ℕ) (i : ℕ) (g : failing (wordTests n (dro
   abbrev tested : List ℕ → Option ℕ
   tested ws = failing (wordTests n ws)
 
-  pub word-fails : (k : ℕ) → i < length code → checkOf n (getD code i 0) ≡ Checked.Refused k → Checked.Refused k ≡ verdict (failing (wordTests n code))
+  pub word-fails : (k : ℕ) → i < length code → checkOf n (getD code i 0) ≡ Checked.Refused k
+      → Checked.Refused k ≡ verdict (failing (wordTests n code))
   unfolding failing wordTests wordTest verdict
   word-fails k h e = let t = rw e at (here (Option ℕ) tested code i (tested code) g h) in ap verdict t
 

@@ -11,7 +11,8 @@ pub failing-cons : (t : Test) (ts : List Test) → failing (t ∷ ts) ≡ none �
 unfolding failing
 failing-cons t ts h = by (t .passes) refl (unfold failing in h)
   where
-    by : (b : Bool) → t .passes ≡ b → _≡_ {A = Option ℕ} (elim b [ true ↦ failing ts | false ↦ some (t .number) ]) none → (t .passes ≡ true) × (failing ts ≡ none)
+    by : (b : Bool) → t .passes ≡ b → _≡_ {A = Option ℕ} (elim b [ true ↦ failing ts | false ↦ some (t .number) ]) none
+        → (t .passes ≡ true) × (failing ts ≡ none)
     by true p q = (p, q)
     by false p q = (cc, cc)
 
@@ -20,7 +21,8 @@ unfolding failing
 failing-here [] us k e = let z : _≡_ {A = ℕ} 0 1 = cc in absurd (omega arith)
 failing-here (t ∷ ts) us k e = by (t .passes) refl (failing-here ts us k) (unfold failing in e)
   where
-    by : (p : Bool) → t .passes ≡ p → (failing ts ≡ some k → failing (ts ++ us) ≡ some k) → (elim p [ true ↦ failing ts | false ↦ some (t .number) ]) ≡ some k → failing (t ∷ ts ++ us) ≡ some k
+    by : (p : Bool) → t .passes ≡ p → (failing ts ≡ some k → failing (ts ++ us) ≡ some k)
+        → (elim p [ true ↦ failing ts | false ↦ some (t .number) ]) ≡ some k → failing (t ∷ ts ++ us) ≡ some k
     by true p ih q = rw p (ih q)
     by false p ih q = rw p q
 

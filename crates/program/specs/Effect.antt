@@ -13,7 +13,10 @@ use Rattle.value.specs.Int.{signed, quotientOf, remainderOf}
 use Rattle.value.specs.Double.{double, on}
 use Rattle.value.specs.Cast.{truth, bit, castToInt, castToDouble, castToBool}
 use Rattle.op.specs.declared.Op.{Op}
-use Rattle.op.specs.declared.Op.the-variants.{IAdd, IAddI, ISub, ISubI, IMul, IMulI, IDiv, IDivI, IMod, IModI, IAnd, IAndI, ILt, IGt, IEq, IEqI, IGtI, ILtI, DAdd, DSub, DMul, DDiv, DLt, DGt, BEq, SEq, Mov, LoadI, LoadG, Jmp, JmpT, JmpF, JmpEqI, JmpNeI, JmpSEq, JmpSNe, Switch, Lookup, Tail, Call, CastToInt, CastToDouble, CastToBool, Alloc, Store, Load, AddrOf, Ret, Assert, Halt, Nop}
+use Rattle.op.specs.declared.Op.the-variants.{IAdd, IAddI, ISub, ISubI, IMul, IMulI, IDiv, IDivI, IMod, IModI, IAnd, IAndI, ILt, IGt, IEq}
+use Rattle.op.specs.declared.Op.the-variants.{IEqI, IGtI, ILtI, DAdd, DSub, DMul, DDiv, DLt, DGt, BEq, SEq, Mov, LoadI, LoadG, Jmp, JmpT}
+use Rattle.op.specs.declared.Op.the-variants.{JmpF, JmpEqI, JmpNeI, JmpSEq, JmpSNe, Switch, Lookup, Tail, Call, CastToInt, CastToDouble}
+use Rattle.op.specs.declared.Op.the-variants.{CastToBool, Alloc, Store, Load, AddrOf, Ret, Assert, Halt, Nop}
 use Rattle.op.specs.declared.Decoded.{Decoded}
 use Rattle.program.specs.declared.Effect.{Effect}
 use Rattle.program.specs.declared.Effect.the-variants as effect
@@ -96,10 +99,14 @@ effectOf im r (JmpNeI lhs imm target) = jumpIf (not (eqb (getD r lhs 0) imm)) ta
 effectOf im r (JmpSEq lhs rhs target) = jumpIf (eqb (getD r lhs 0) (getD r rhs 0)) target
 effectOf im r (JmpSNe lhs rhs target) = jumpIf (not (eqb (getD r lhs 0) (getD r rhs 0))) target
 effectOf im r (Switch kind subject table) =
-    within table (length (im .switches .firsts)) (switched (entriesOf (im .switches) table) (slot kind (getD r subject 0) (getD (im .switches .firsts) table 0)))
+    within table (length (im .switches .firsts))
+    (switched (entriesOf (im .switches) table) (slot kind (getD r subject 0) (getD (im .switches .firsts) table 0)))
 effectOf im r (Lookup kind dst subject table) =
     within table (length (im .lookups .firsts))
-    (effect.Set dst (getD (entriesOf (im .lookups) table) (slot kind (getD r subject 0) (getD (im .lookups .firsts) table 0)) (getD (im .defaults) table 0)))
+    (effect.Set dst
+    (getD (entriesOf (im .lookups) table)
+    (slot kind (getD r subject 0) (getD (im .lookups .firsts) table 0))
+    (getD (im .defaults) table 0)))
 effectOf im r (Tail func) = effect.Goto func
 effectOf im r (Call func) = effect.Call func
 effectOf im r (CastToInt dst src) = effect.Set dst (castToInt (getD r src 0))

@@ -28,7 +28,13 @@ abbrev pub tablesOf : List ℕ → List ℕ → List ℕ → Tables
 tablesOf firsts ends entries = record { firsts = firsts; ends = ends; entries = entries }
 
 abbrev pub imageOf : List ℕ → List ℕ → Tables → Tables → List ℕ → Image
-imageOf code globals switches lookups defaults = record { code = code; globals = globals; switches = switches; lookups = lookups; defaults = defaults }
+imageOf code globals switches lookups defaults = record {
+  code = code;
+  globals = globals;
+  switches = switches;
+  lookups = lookups;
+  defaults = defaults;
+}
 
 -- where the entries of table k begin
 unfoldable pub startOf : List ℕ → ℕ → ℕ
@@ -39,7 +45,12 @@ unfoldable pub entriesOf : Tables → ℕ → List ℕ
 entriesOf t k = part (startOf (t .ends) k) (getD (t .ends) k 0 - startOf (t .ends) k) (t .entries)
 
 unfoldable pub counts : Image → Counts
-counts im = record { code = length (im .code); globals = length (im .globals); switches = length (im .switches .firsts); lookups = length (im .lookups .firsts) }
+counts im = record {
+  code = length (im .code);
+  globals = length (im .globals);
+  switches = length (im .switches .firsts);
+  lookups = length (im .lookups .firsts);
+}
 
 -- ---- refusals
 
@@ -56,11 +67,19 @@ rising from [] to = eqb from to
 rising from (e ∷ es) to = leb from e && rising e es to
 
 unfoldable pub tablesOk : Tables → Bool
-tablesOk t = leb (length (t .firsts)) 256 && (eqb (length (t .ends)) (length (t .firsts)) && (leb (length (t .entries)) 4096 && rising 0 (t .ends) (length (t .entries))))
+tablesOk t =
+    leb (length (t .firsts)) 256
+    && (eqb (length (t .ends)) (length (t .firsts))
+    && (leb (length (t .entries)) 4096
+    && rising 0 (t .ends) (length (t .entries))))
 
 unfoldable pub imageOk : Image → Bool
 imageOk im =
-    leb (length (im .code)) 65536 && (leb (length (im .globals)) 4096 && (tablesOk (im .switches) && (tablesOk (im .lookups) && eqb (length (im .defaults)) (length (im .lookups .firsts)))))
+    leb (length (im .code)) 65536
+    && (leb (length (im .globals)) 4096
+    && (tablesOk (im .switches)
+    && (tablesOk (im .lookups)
+    && eqb (length (im .defaults)) (length (im .lookups .firsts)))))
 
 -- 11: 'code not empty, byte 0 of the last word isn't 59'
 unfoldable pub endsInHalt : List ℕ → Bool
@@ -84,7 +103,10 @@ wordTests n (w ∷ ws) = wordTest (checkOf n w) ∷ wordTests n ws
 -- 'Order: 10, 11, 16, then word by word 12, 13, 14, 15', what 10 says of the rest of what is lent being handed in
 unfoldable pub imageTests : Bool → Image → List Test
 imageTests lent im =
-    test (lent && imageOk im) 10 ∷ test (endsInHalt (im .code)) 11 ∷ test (below (length (im .code)) (im .switches .entries)) 16 ∷ wordTests (counts im) (im .code)
+    test (lent && imageOk im) 10
+    ∷ test (endsInHalt (im .code)) 11
+    ∷ test (below (length (im .code)) (im .switches .entries)) 16
+    ∷ wordTests (counts im) (im .code)
 
 -- the number of the first test that fails
 unfoldable pub failing : List Test → Option ℕ

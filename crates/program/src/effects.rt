@@ -1,5 +1,5 @@
-// What an instruction asks for: the meaning of every `Op`. `word_effect` is for the loop of a run alone, and each function below it has one
-// caller: the compiler then puts them all into the loop.
+// What an instruction asks for: the meaning of every `Op`. `word_effect` is for the loop of a run alone, and each function below it is tiny or
+// has one call site: the compiler then puts them all into the loop.
 ghost use mathlib.Core.Path.{_≡_};
 ghost use mathlib.Core.Bool.{true, cond};
 ghost use mathlib.Core.List.{List};
@@ -14,6 +14,7 @@ use crate::Effect;
 use anomaly::Anomaly;
 use op::Decoded;
 use op::Op;
+use string::ALIGN;
 use value::Value;
 use value::double;
 use value::int;
@@ -88,7 +89,11 @@ fn slot(kind: u64, subject: u64, first: u64) -> u64
     ensures { λ r. ⌜ r ≡ slot kind subject first ⌝ }
 {
     let offset = std::num::wrapping_sub_u64(subject, first);
-    if kind == Op::STR { offset / 4 } else { offset }
+    if kind == Op::STR {
+        offset / ALIGN
+    } else {
+        offset
+    }
 }
 
 // The entry of a subject in a table. The ends that are checked go up to the number of entries.
@@ -101,7 +106,10 @@ fn find(
     entries: &[u64],
 ) -> Entry
     requires { ⌜ (tablesOk (tablesOf (now firsts) (now ends) (now entries)) ≡ true) × (table < length (now firsts)) ⌝ }
-    ensures { λ r. ⌜ r ≡ cond (ltb (slot kind subject (getD (now (firsts .entry)) table 0)) (length (entriesOf (tablesOf (now (firsts .entry)) (now (ends .entry)) (now (entries .entry))) table))) (Entry.At (getD (entriesOf (tablesOf (now (firsts .entry)) (now (ends .entry)) (now (entries .entry))) table) (slot kind subject (getD (now (firsts .entry)) table 0)) 0)) Entry.Missing ⌝ }
+    ensures { λ r. ⌜ r ≡ cond (ltb (slot kind subject (getD (now (firsts .entry)) table 0))
+        (length (entriesOf (tablesOf (now (firsts .entry)) (now (ends .entry)) (now (entries .entry))) table)))
+        (Entry.At (getD (entriesOf (tablesOf (now (firsts .entry)) (now (ends .entry)) (now (entries .entry))) table)
+        (slot kind subject (getD (now (firsts .entry)) table 0)) 0)) Entry.Missing ⌝ }
 {
     let from = starts_at(ends, table);
     let s = slot(kind, subject, firsts[table]);
@@ -121,7 +129,9 @@ fn switch(
     entries: &[u64],
 ) -> Effect
     requires { ⌜ tablesOk (tablesOf (now firsts) (now ends) (now entries)) ≡ true ⌝ }
-    ensures { λ r. ⌜ r ≡ within table (length (now (firsts .entry))) (switched (entriesOf (tablesOf (now (firsts .entry)) (now (ends .entry)) (now (entries .entry))) table) (slot kind subject (getD (now (firsts .entry)) table 0))) ⌝ }
+    ensures { λ r. ⌜ r ≡ within table (length (now (firsts .entry)))
+        (switched (entriesOf (tablesOf (now (firsts .entry)) (now (ends .entry)) (now (entries .entry))) table)
+        (slot kind subject (getD (now (firsts .entry)) table 0))) ⌝ }
 {
     if firsts.len() <= table {
         return Effect::Stop(UNLISTED);
@@ -144,7 +154,9 @@ fn lookup(
     defaults: &[u64],
 ) -> Effect
     requires { ⌜ (tablesOk (tablesOf (now firsts) (now ends) (now entries)) ≡ true) × (length (now defaults) ≡ length (now firsts)) ⌝ }
-    ensures { λ r. ⌜ r ≡ within table (length (now (firsts .entry))) (Effect.Set dst (getD (entriesOf (tablesOf (now (firsts .entry)) (now (ends .entry)) (now (entries .entry))) table) (slot kind subject (getD (now (firsts .entry)) table 0)) (getD (now (defaults .entry)) table 0))) ⌝ }
+    ensures { λ r. ⌜ r ≡ within table (length (now (firsts .entry)))
+        (Effect.Set dst (getD (entriesOf (tablesOf (now (firsts .entry)) (now (ends .entry)) (now (entries .entry))) table)
+        (slot kind subject (getD (now (firsts .entry)) table 0)) (getD (now (defaults .entry)) table 0))) ⌝ }
 {
     if firsts.len() <= table {
         return Effect::Stop(UNLISTED);
@@ -168,8 +180,15 @@ fn effect_of(
     lookup_entries: &[u64],
     defaults: &[u64],
 ) -> Effect
-    requires { ⌜ okOp op × (tablesOk (tablesOf (now «switch_firsts») (now «switch_ends») (now «switch_entries»)) ≡ true) × (tablesOk (tablesOf (now «lookup_firsts») (now «lookup_ends») (now «lookup_entries»)) ≡ true) × (length (now defaults) ≡ length (now «lookup_firsts»)) ⌝ }
-    ensures { λ r. ⌜ ((code : List ℕ) → r ≡ effectOf (imageOf code (now (globals .entry)) (tablesOf (now («switch_firsts» .entry)) (now («switch_ends» .entry)) (now («switch_entries» .entry))) (tablesOf (now («lookup_firsts» .entry)) (now («lookup_ends» .entry)) (now («lookup_entries» .entry))) (now (defaults .entry))) (now (regs .entry)) op) ⌝ }
+    requires { ⌜ okOp op × (tablesOk (tablesOf (now «switch_firsts») (now «switch_ends») (now «switch_entries»)) ≡ true)
+        × (tablesOk (tablesOf (now «lookup_firsts») (now «lookup_ends») (now «lookup_entries»)) ≡ true)
+        × (length (now defaults) ≡ length (now «lookup_firsts»)) ⌝ }
+    ensures { λ r. ⌜ ((code : List ℕ)
+        → r
+        ≡ effectOf (imageOf code (now (globals .entry))
+        (tablesOf (now («switch_firsts» .entry)) (now («switch_ends» .entry)) (now («switch_entries» .entry)))
+        (tablesOf (now («lookup_firsts» .entry)) (now («lookup_ends» .entry)) (now («lookup_entries» .entry))) (now (defaults .entry)))
+        (now (regs .entry)) op) ⌝ }
 {
     match op {
         Op::IAdd { dst, lhs, rhs } => Effect::Set(
@@ -320,8 +339,15 @@ pub fn word_effect(
     lookup_entries: &[u64],
     defaults: &[u64],
 ) -> Effect
-    requires { ⌜ (tablesOk (tablesOf (now «switch_firsts») (now «switch_ends») (now «switch_entries»)) ≡ true) × (tablesOk (tablesOf (now «lookup_firsts») (now «lookup_ends») (now «lookup_entries»)) ≡ true) × (length (now defaults) ≡ length (now «lookup_firsts»)) ⌝ }
-    ensures { λ r. ⌜ ((code : List ℕ) → r ≡ wordEffect (imageOf code (now (globals .entry)) (tablesOf (now («switch_firsts» .entry)) (now («switch_ends» .entry)) (now («switch_entries» .entry))) (tablesOf (now («lookup_firsts» .entry)) (now («lookup_ends» .entry)) (now («lookup_entries» .entry))) (now (defaults .entry))) (now (regs .entry)) (decodeOf w)) ⌝ }
+    requires { ⌜ (tablesOk (tablesOf (now «switch_firsts») (now «switch_ends») (now «switch_entries»)) ≡ true)
+        × (tablesOk (tablesOf (now «lookup_firsts») (now «lookup_ends») (now «lookup_entries»)) ≡ true)
+        × (length (now defaults) ≡ length (now «lookup_firsts»)) ⌝ }
+    ensures { λ r. ⌜ ((code : List ℕ)
+        → r
+        ≡ wordEffect (imageOf code (now (globals .entry))
+        (tablesOf (now («switch_firsts» .entry)) (now («switch_ends» .entry)) (now («switch_entries» .entry)))
+        (tablesOf (now («lookup_firsts» .entry)) (now («lookup_ends» .entry)) (now («lookup_entries» .entry))) (now (defaults .entry)))
+        (now (regs .entry)) (decodeOf w)) ⌝ }
 {
     let decoded = op::decode(w);
     let Decoded::Op(op) = decoded else {

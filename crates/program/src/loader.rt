@@ -81,7 +81,10 @@ fn sizes_ok(
     lookup_entries: &[u64],
     defaults: &[u64],
 ) -> bool
-    ensures { λ r. ⌜ r ≡ imageOk (imageOf (now (code .entry)) (now (globals .entry)) (tablesOf (now («switch_firsts» .entry)) (now («switch_ends» .entry)) (now («switch_entries» .entry))) (tablesOf (now («lookup_firsts» .entry)) (now («lookup_ends» .entry)) (now («lookup_entries» .entry))) (now (defaults .entry))) ⌝ }
+    ensures { λ r. ⌜ r ≡ imageOk (imageOf (now (code .entry)) (now (globals .entry))
+        (tablesOf (now («switch_firsts» .entry)) (now («switch_ends» .entry)) (now («switch_entries» .entry)))
+        (tablesOf (now («lookup_firsts» .entry)) (now («lookup_ends» .entry)) (now («lookup_entries» .entry)))
+        (now (defaults .entry))) ⌝ }
 {
     let switches = tables_ok(switch_firsts, switch_ends, switch_entries);
     let lookups = tables_ok(lookup_firsts, lookup_ends, lookup_entries);
@@ -103,7 +106,11 @@ pub fn check(
     lookup_entries: &[u64],
     defaults: &[u64],
 ) -> Checked
-    ensures { λ r. ⌜ r ≡ verdict (failing (imageTests lent (imageOf (now (code .entry)) (now (globals .entry)) (tablesOf (now («switch_firsts» .entry)) (now («switch_ends» .entry)) (now («switch_entries» .entry))) (tablesOf (now («lookup_firsts» .entry)) (now («lookup_ends» .entry)) (now («lookup_entries» .entry))) (now (defaults .entry))))) ⌝ }
+    ensures { λ r. ⌜ r ≡ verdict (failing (imageTests lent
+        (imageOf (now (code .entry)) (now (globals .entry))
+        (tablesOf (now («switch_firsts» .entry)) (now («switch_ends» .entry)) (now («switch_entries» .entry)))
+        (tablesOf (now («lookup_firsts» .entry)) (now («lookup_ends» .entry)) (now («lookup_entries» .entry)))
+        (now (defaults .entry))))) ⌝ }
 {
     let sizes = sizes_ok(
         code,

@@ -8,7 +8,6 @@ use lib.ListN.{length, length-append, length-replicate}
 use borrow.Author.Tests.{leb-true}
 use Rattle.memory.specs.Lists.{over}
 use Rattle.memory.proofs.Over.{length-write}
-use Rattle.string.specs.Payload.{holds}
 use Rattle.gc.specs.declared.Gc.{Gc}
 use Rattle.gc.specs.declared.Alloc.{Alloc}
 use Rattle.gc.specs.declared.Alloc.the-variants.{At, Refused}
@@ -17,7 +16,6 @@ use Rattle.gc.specs.Pages as Pages
 use Rattle.gc.specs.Lent.{pageSize, numbersOf, Outcome, outcome}
 use Rattle.gc.specs.Lent as Heap
 use Rattle.gc.proofs.Growth.{grow-enough}
-use Rattle.vm.specs.Machine.{granted}
 
 -- the payload's n bytes lie in the pages
 pub record Placed (n : ℕ) (b : Block) : Type 0 where
@@ -26,7 +24,10 @@ pub record Placed (n : ℕ) (b : Block) : Type 0 where
 
 fitted-placed : (t : Bool) (flags n : ℕ) (p : Pages) → Pages.holds n p ≡ t → Placed n (fitted t pageSize flags n p)
 unfolding fitted block pushed Pages.holds
-fitted-placed true flags n p e = let k = leb-true (p .len + gapOf (p .len) + 16 + n) (length (p .bytes) - p .last) e in record { above = omega arith; within = rw length-write (omega arith) }
+fitted-placed true flags n p e = let k = leb-true (p .len + gapOf (p .len) + 16 + n) (length (p .bytes) - p .last) e in record {
+  above = omega arith;
+  within = rw length-write (omega arith);
+}
 fitted-placed false flags n p e =
     record { above = omega arith; within = rw (length-write, length-append, length-replicate) (omega (arith, grow-enough pageSize n (omega arith))) }
 
@@ -41,7 +42,8 @@ pub record Given-at (b : Bool) (k : Block) (heap x : List ℕ) (a : ℕ) (g : Gc
   pub numbers : g ≡ numbersOf (k .pages)
   pub bytes : x ≡ over (k .pages .bytes) heap
 
-pub at-said : (b : Bool) (k : Block) (heap x : List ℕ) (r : Alloc) (a : ℕ) (g : Gc) → r ≡ At a g → outcome r x ≡ Heap.granted b k heap → Given-at b k heap x a g
+pub at-said : (b : Bool) (k : Block) (heap x : List ℕ) (r : Alloc) (a : ℕ) (g : Gc) → r ≡ At a g → outcome r x ≡ Heap.granted b k heap
+    → Given-at b k heap x a g
 unfolding Heap.granted
 at-said true k heap x r a g q e =
     let answer = ap (λ (o : Outcome). o .answer) e in

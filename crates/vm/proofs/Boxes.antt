@@ -14,23 +14,23 @@ use Rattle.memory.proofs.Bytes.{length-bytesOf}
 use Rattle.gc.specs.declared.Gc.{Gc}
 use Rattle.gc.specs.declared.Alloc.{Alloc}
 use Rattle.gc.specs.Pages.{Block, growOf, gapOf, holds, block, pushed, fitted, allocated}
-use Rattle.gc.specs.Lent.{pageSize, pagesOf, numbersOf, outcome, fits, granted, grantedIn, allocOf, Sound}
+use Rattle.gc.specs.Lent.{pageSize, pagesOf, numbersOf, outcome, fits, granted, grantedIn, allocOf, InHeap}
 use Rattle.vm.specs.Core.{setPages, setBytes}
 use Rattle.vm.specs.Names.{filled, boxed}
-use Rattle.vm.specs.Machine.{firstPage, firstLand}
-use Rattle.vm.specs.Told.{blockOf, landIn}
+use Rattle.vm.specs.Machine.{firstPage, firstMemory}
+use Rattle.vm.specs.Told.{blockOf, memoryIn}
 use Rattle.vm.proofs.Starting.{first-length}
 use Rattle.vm.proofs.Kept.{allocated-base}
 use Rattle.vm.proofs.Blocks.{Placed, allocated-placed, Given-at, at-said, refused-said}
 
 -- ---- a box: two words in the payload of a block that was granted
 
-module _ (g : Gc) (heap : List ℕ) (s : Sound g heap) (tag v : ℕ) where
+module _ (g : Gc) (heap : List ℕ) (s : InHeap g heap) (tag v : ℕ) where
   abbrev b : Block
   b = allocated pageSize 2 16 (pagesOf g heap)
 
   abbrev goal : Block
-  goal = blockOf (boxed tag v (landIn g heap))
+  goal = blockOf (boxed tag v (memoryIn g heap))
 
   base-is : b .pages .base ≡ g .base
   unfolding pagesOf
@@ -51,7 +51,8 @@ module _ (g : Gc) (heap : List ℕ) (s : Sound g heap) (tag v : ℕ) where
   words = bytesOf 8 tag ++ bytesOf 8 v
 
   -- the two words, one after the other into the lent heap
-  laid-words : write (b .address - g .base + 8) (bytesOf 8 v) (write (b .address - g .base) (bytesOf 8 tag) (over (b .pages .bytes) heap)) ≡ over (goal .pages .bytes) heap
+  laid-words : write (b .address - g .base + 8) (bytesOf 8 v) (write (b .address - g .base) (bytesOf 8 tag) (over (b .pages .bytes) heap))
+      ≡ over (goal .pages .bytes) heap
   unfolding boxed filled setPages setBytes pagesOf
   laid-words =
       let at : ℕ = b .address - g .base in
@@ -88,12 +89,14 @@ module _ (g : Gc) (heap : List ℕ) (s : Sound g heap) (tag v : ℕ) where
       pub box-small : a - g .base + 8 < 2 ^ 64
       box-small = let room = in-lent in let low = s .low in omega arith
 
-      pub box-written : (y z : List ℕ) → y ≡ write (a - g .base) (bytesOf 8 tag) x → z ≡ write (a - g .base + 8) (bytesOf 8 v) y → outcome (Alloc.At a h) z ≡ grantedIn goal heap
+      pub box-written : (y z : List ℕ) → y ≡ write (a - g .base) (bytesOf 8 tag) x → z ≡ write (a - g .base + 8) (bytesOf 8 v) y
+          → outcome (Alloc.At a h) z ≡ grantedIn goal heap
       unfolding granted boxed filled
       box-written y z ey ez =
           let at : a - g .base ≡ b .address - g .base = ap (λ (k : ℕ). k - g .base) (said .address) in
           let home : z ≡ over (goal .pages .bytes) heap = ez ∙ rw (ey, said .bytes, at) laid-words in
-          let answer : Alloc.At a h ≡ Alloc.At (goal .address) (numbersOf (goal .pages)) = ap₂ (λ (k : ℕ) (n : Gc). Alloc.At k n) (said .address) (said .numbers ∙ same-numbers) in
+          let answer : Alloc.At a h ≡ Alloc.At (goal .address) (numbersOf (goal .pages)) = ap₂ (λ (k : ℕ) (n : Gc). Alloc.At k n)
+          (said .address) (said .numbers ∙ same-numbers) in
           rw (same-fit ∙ said .fitting) (ap₂ outcome answer home)
 
 -- ---- the first box, in a heap without pages: it pushes page 0
@@ -101,14 +104,17 @@ module _ (g : Gc) (heap : List ℕ) (s : Sound g heap) (tag v : ℕ) where
 abbrev bare : ℕ → Gc
 bare base = record { base = base; pushed = 0; page = 0; len = 0 }
 
-first-box : (base : ℕ) (heap : List ℕ) → blockOf (boxed 0 0 (landIn (bare base) heap)) ≡ record { address = base + 16; pages = firstLand base .pages }
-unfolding firstLand firstPage boxed filled setPages setBytes pagesOf allocated fitted holds block pushed gapOf growOf
+first-box : (base : ℕ) (heap : List ℕ)
+    → blockOf (boxed 0 0 (memoryIn (bare base) heap)) ≡ record { address = base + 16; pages = firstMemory base .pages }
+unfolding firstMemory firstPage boxed filled setPages setBytes pagesOf allocated fitted holds block pushed gapOf growOf
 first-box base heap = refl
 
-pub first-laid : (base : ℕ) (heap : List ℕ) → pageSize ≤ length heap → (r : Alloc) (x : List ℕ) → outcome r x ≡ grantedIn (blockOf (boxed 0 0 (landIn (bare base) heap))) heap
-    → outcome r x ≡ outcome (Alloc.At (base + 16) (numbersOf (firstLand base .pages))) (over (firstLand base .pages .bytes) heap)
+pub first-laid : (base : ℕ) (heap : List ℕ) → pageSize ≤ length heap → (r : Alloc) (x : List ℕ)
+    → outcome r x ≡ grantedIn (blockOf (boxed 0 0 (memoryIn (bare base) heap))) heap
+    → outcome r x ≡ outcome (Alloc.At (base + 16) (numbersOf (firstMemory base .pages))) (over (firstMemory base .pages .bytes) heap)
 unfolding granted fits
 first-laid base heap room r x e =
     let n = first-length base in
-    let fit : leb (length (firstLand base .pages .bytes)) (length heap) ≡ true = le-leb (length (firstLand base .pages .bytes)) (length heap) (omega arith) in
+    let fit : leb (length (firstMemory base .pages .bytes)) (length heap)
+    ≡ true = le-leb (length (firstMemory base .pages .bytes)) (length heap) (omega arith) in
     rw (first-box base heap, fit) at e

@@ -22,19 +22,20 @@ pub heap-room : (base n : ℕ) → heapOk base n ≡ true → pageSize ≤ n
 unfolding heapOk
 heap-room base n h = leb-true pageSize n (both (leb pageSize n) _ (both _ _ h .0) .0)
 
-pub heap-long : (base n : ℕ) → 1048576 < n → false ≡ heapOk base n
+pub heap-long : (base n : ℕ) → 256 * pageSize < n → false ≡ heapOk base n
 unfolding heapOk
-heap-long base n h = rw (le-leb 4096 n (omega arith), lt-leb n 1048576 h) refl
+heap-long base n h = rw (le-leb pageSize n (omega arith), lt-leb n (256 * pageSize) h) refl
 
-pub heap-tested : (base n : ℕ) → n ≤ 1048576
-    → ((leb 4096 n && eqb (n % 4096) 0) && (leb 4096 base && (eqb (base % 4096) 0 && leb base (281474976710656 - n)))) ≡ heapOk base n
+pub heap-tested : (base n : ℕ) → n ≤ 256 * pageSize
+    → ((leb pageSize n && eqb (n % pageSize) 0) && (leb pageSize base && (eqb (base % pageSize) 0 && leb base (2 ^ 48 - n)))) ≡ heapOk base n
 unfolding heapOk
-heap-tested base n h = rw (le-leb n 1048576 h, leb-minus base n 281474976710656 (base + n) refl (omega arith)) refl
+heap-tested base n h = rw (le-leb n (256 * pageSize) h, leb-minus base n (2 ^ 48) (base + n) refl (omega arith)) refl
 
 pub heap-low : (base n : ℕ) → heapOk base n ≡ true → base + n ≤ 2 ^ 48
 unfolding heapOk
 heap-low base n h =
-    let address = both (leb pageSize n && (leb n (256 * pageSize) && eqb (n % pageSize) 0)) (leb pageSize base && (eqb (base % pageSize) 0 && leb (base + n) (2 ^ 48))) h .1 in
+    let address = both (leb pageSize n && (leb n (256 * pageSize) && eqb (n % pageSize) 0))
+    (leb pageSize base && (eqb (base % pageSize) 0 && leb (base + n) (2 ^ 48))) h .1 in
     let place = both (leb pageSize base) (eqb (base % pageSize) 0 && leb (base + n) (2 ^ 48)) address .1 in
     leb-true (base + n) (2 ^ 48) (both (eqb (base % pageSize) 0) (leb (base + n) (2 ^ 48)) place .1)
 
@@ -60,7 +61,8 @@ module _ (s : State) (l : Lent) where
     belong-idle zero e = belong-empty
     belong-idle (suc last) e = rw (le-leb (s .depth) (length (l .frames)) fit, e) refl
 
-    pub belong-below : (words depth : ℕ) → (words ≡ 0 → ⊥) → (depth ≡ 0 → ⊥) → s .depth ≡ depth → below (words - 1) (take (depth - 1) (drop 1 (l .frames))) ≡ framesBelong words s l
+    pub belong-below : (words depth : ℕ) → (words ≡ 0 → ⊥) → (depth ≡ 0 → ⊥) → s .depth ≡ depth
+        → below (words - 1) (take (depth - 1) (drop 1 (l .frames))) ≡ framesBelong words s l
     unfolding framesBelong returnsOk
     belong-below zero depth w d e = absurd (w refl)
     belong-below (suc last) zero w d e = absurd (d refl)

@@ -1,5 +1,6 @@
--- Demand 1, of a run that is not refused: it ends with a listed number within its budget, 5 only when the budget is completed, and reads
--- nothing outside the code, the globals and the tables (`unlisted`, which such a read would end with, is no listed number). Assumes nothing.
+-- Demand 1: any start or run is refused by a number of the table, which changes nothing, or the run ends with a listed number within its budget,
+-- 5 only when the budget is completed, and reads nothing outside the code, the globals and the tables (`unlisted`, which such a read would end
+-- with, is no listed number). Assumes nothing.
 use mathlib.Core.Path.{_≡_, refl, sym, ap, subst, _∙_}
 use Prim.Native.Nat.{ℕ, zero, suc, _+_, _-_, _%_, _^_, _≤_, _<_}
 use mathlib.Core.Bool.{Bool, true, false, _&&_, true≢false}
@@ -11,8 +12,9 @@ use native.Mathlib.Nat.{not-suc-le-zero, le-of-suc-le-suc, mod-le}
 use lib.ListN.{length, getD, take, drop, set, length-set}
 use lib.Dec.{leb, ltb, lit<}
 use borrow.Author.Tests.{leb-true, le-leb, ltb-true, eqb-true, ne-eqb}
+use Rattle.memory.proofs.Tests.{both}
 use Rattle.anomaly.specs.Table.{isAnomaly, isRefusal}
-use Rattle.anomaly.proofs.Numbers.{either, both, in-range}
+use Rattle.anomaly.proofs.Numbers.{either, in-range}
 use Rattle.op.specs.declared.Checked.{Checked}
 use Rattle.op.specs.declared.Counts.{Counts}
 use Rattle.op.specs.Reach.{checkOf}
@@ -20,7 +22,9 @@ use Rattle.vm.specs.Core.{Core, Sizes, used, short, setFrames}
 use Rattle.program.specs.Image.{Image, Test, test, imageOk, endsInHalt, below, wordTest, wordTests, counts, imageTests, failing}
 use Rattle.vm.specs.Run.{Step, next, halted, stop, step, after, go, root, entered}
 use Rattle.vm.specs.Names.{Given}
-use Rattle.vm.specs.Machine.{Lent, Machine, sizes, landOf, view, Call, run, light, host, Host, Answer, ended, value, done, refused, ran, idle, runs, runCall, act, hosted, granted, hostCall, framesOk, heapOk, slotsOk, returnsOk, framesBelong, pagesBelong, tests, tried, perform, Started, declined, begun, starts, start}
+use Rattle.vm.specs.Machine.{Lent, Machine, sizes, memoryOf, view, Call, run, setting, host, Host, Answer, ended, value, done, refused}
+use Rattle.vm.specs.Machine.{ran, idle, runs, runCall, act, hosted, granted, hostCall, framesOk, heapOk, returnsOk}
+use Rattle.vm.specs.Machine.{framesBelong, pagesBelong, found, testsBy, tests, tried, perform, Started, declined, begun, starts, buffersOk, start}
 use Rattle.vm.proofs.Fits.{fits-of, view-fits}
 use Rattle.program.proofs.Tests.{failing-cons}
 use Rattle.vm.proofs.Refusals.{failing-numbered, image-alone, call-numbered}
@@ -29,8 +33,9 @@ use Rattle.vm.proofs.Kept.{GoodStep, step-good}
 use Rattle.vm.proofs.Runs.{runs-go, runs-past}
 use Rattle.vm.specs.Loaded.{Checks, Returns}
 use Rattle.vm.proofs.Inside.{Inside, StepOk, step-ok}
+use Rattle.vm.proofs.Starting.{start-passes}
 
--- an end with these steps under the budget b: 0 to 8, and 5 just when the budget is completed
+-- an end with these steps under the budget b: 0 to 8, and 5 only when the budget is completed
 pub record Listed (b e steps : ℕ) : Type 0 where
   pub number : e ≤ 8
   pub within : steps ≤ b
@@ -62,11 +67,12 @@ module _ (L : Sizes) (im : Image) (k : Checks im) where
   abbrev GoListed : ℕ → Core → Type 0
   GoListed b c = short L (used c) ≡ none → Inside (length (im .code)) c → Listed b (go L im b c .ending) (go L im b c .steps)
 
-  listed-suc : (b : ℕ) (c : Core) (x : Step) → step L im c ≡ x → GoodStep L (c .land) x → StepOk (length (im .code)) x → ((d : Core) → GoListed b d)
+  listed-suc : (b : ℕ) (c : Core) (x : Step) → step L im c ≡ x → GoodStep L (c .memory) x → StepOk (length (im .code)) x → ((d : Core) → GoListed b d)
       → Listed (suc b) (go L im (suc b) c .ending) (go L im (suc b) c .steps)
   unfolding after go
   listed-suc b c (next d) p g o ih = rw (go-next L im b c d p) (listed-next b _ _ (ih d (g .1) o))
-  listed-suc b c halted p g o ih = rw (go-halted L im b c p) (record { number = omega arith; within = omega arith; spends = λ q. absurd (omega arith) })
+  listed-suc b c halted p g o ih = rw (go-halted L im b c p)
+      (record { number = omega arith; within = omega arith; spends = λ q. absurd (omega arith) })
   listed-suc b c (stop e) p g o ih = rw (go-stop L im b c e p) (stop-listed (suc b) e o)
 
   pub go-listed : (b : ℕ) (c : Core) → GoListed b c
@@ -91,7 +97,8 @@ words-fine n (w ∷ ws) rest h =
     let more = words-fine n ws rest (here .1) in
     (λ i. at i (word-fine (checkOf n w) (here .0)) (more .0), more .1)
   where
-    at : (i : ℕ) → checkOf n w ≡ Checked.Fine → ((j : ℕ) → j < length ws → checkOf n (getD ws j 0) ≡ Checked.Fine) → i < length (w ∷ ws) → checkOf n (getD (w ∷ ws) i 0) ≡ Checked.Fine
+    at : (i : ℕ) → checkOf n w ≡ Checked.Fine → ((j : ℕ) → j < length ws → checkOf n (getD ws j 0) ≡ Checked.Fine) → i < length (w ∷ ws)
+        → checkOf n (getD (w ∷ ws) i 0) ≡ Checked.Fine
     at zero f m l = f
     at (suc j) f m l = m j (le-of-suc-le-suc l)
 
@@ -142,9 +149,10 @@ module _ (im : Image) (b : ℕ) (m : Machine) (passed : failing (tests (run im b
     pub pages : pagesBelong (m .state) (m .lent) ≡ true
 
   pub all-passed : Passed
-  unfolding tests imageTests
+  unfolding tests testsBy imageTests
   all-passed =
-      let size = failing-cons (test ((framesOk (length (m .lent .frames)) && heapOk (m .state .gc .base) (length (m .lent .heap))) && imageOk im) 10) _ passed in
+      let size = failing-cons (test
+      ((framesOk (length (m .lent .frames)) && heapOk (m .state .gc .base) (length (m .lent .heap))) && imageOk im) 10) _ passed in
       let halts = failing-cons (test _ 11) _ (size .1) in
       let targets = failing-cons (test _ 16) _ (halts .1) in
       let words = words-fine (counts im) (im .code) rest (targets .1) in
@@ -159,14 +167,16 @@ module _ (im : Image) (b : ℕ) (m : Machine) (passed : failing (tests (run im b
   from-inside last e l =
       let p = all-passed in
       let s : suc last ≤ 65536 = rw (← e) (code-size im (p .image)) in
-      let frames : framesBelong (suc last) (m .state) (m .lent) ≡ true = subst (λ (n : ℕ). framesBelong n (m .state) (m .lent) ≡ true) e (p .frames) in
+      let frames : framesBelong (suc last) (m .state) (m .lent)
+      ≡ true = subst (λ (n : ℕ). framesBelong n (m .state) (m .lent) ≡ true) e (p .frames) in
       let back = both (leb (m .state .depth) (length (m .lent .frames))) _ frames .1 in
       rw e (record { here = l; returns = entered-returns last (take (m .state .depth) (m .lent .frames)) s back })
 
   pub checks : 0 < length (im .code) → Checks im
   checks l = let p = all-passed in record { targets = p .targets; words = p .words; ends = ends-at (im .code) l (p .halts) }
 
-  ends-case : (last : ℕ) (t : Bool) → length (im .code) ≡ suc last → ltb (m .state .pc) (suc last) ≡ t → RunAnswer b (runs (sizes (m .lent)) im b (suc last) (view m) .answer)
+  ends-case : (last : ℕ) (t : Bool) → length (im .code) ≡ suc last → ltb (m .state .pc) (suc last) ≡ t
+      → RunAnswer b (runs (sizes (m .lent)) im b (suc last) (view m) .answer)
   unfolding ran idle entered setFrames view
   ends-case last true e t =
       let c = entered (suc last) (view m) in
@@ -186,7 +196,8 @@ pub refusal-numbered : (k : ℕ) → (9 ≤ k) × (k ≤ 17) → isRefusal k ≡
 refusal-numbered k h = rw (ne-eqb k 2 (λ e. omega arith), le-leb 9 k (h .0), le-leb k 19 (omega arith)) refl
 
 -- a run that was tried ends, and is not refused
-ended-case : (n : Sizes) (im : Image) (b k : ℕ) (c : Core) (e : ℕ) (t : Bool) → ltb (c .pc) (suc k) ≡ t → runs n im b (suc k) c .answer ≡ refused e → ⊥
+ended-case : (n : Sizes) (im : Image) (b k : ℕ) (c : Core) (e : ℕ) (t : Bool) → ltb (c .pc) (suc k) ≡ t
+    → runs n im b (suc k) c .answer ≡ refused e → ⊥
 unfolding ran
 ended-case n im b k c e true q h = let g = rw (runs-go n im b k c q) at h in let z : _≡_ {A = ℕ} 0 1 = cc in absurd (omega arith)
 ended-case n im b k c e false q h = let g = rw (runs-past n im b k c q) at h in let z : _≡_ {A = ℕ} 0 1 = cc in absurd (omega arith)
@@ -203,12 +214,12 @@ granted-refused (some n) k m g e h = refl
 
 -- any run on any machine: refused by a number of the table, or ended with a listed number within the budget
 pub run-answers : (im : Image) (b : ℕ) (m : Machine) → RunAnswer b (perform (run im b) m .answer)
-unfolding perform tried act runCall
+unfolding perform tried act runCall tests
 run-answers im b m = by (failing (tests (run im b) (m .state) (m .lent))) refl
   where
     by : (o : Option ℕ) → failing (tests (run im b) (m .state) (m .lent)) ≡ o → RunAnswer b (tried o (run im b) m .answer)
     by none f = run-ends im b m f (length (im .code)) refl
-    by (some k) f = refusal-numbered k (failing-numbered _ k (call-numbered (run im b) (m .state) (m .lent)) f)
+    by (some k) f = refusal-numbered k (failing-numbered _ k (call-numbered (run im b) (found (m .state) (m .lent))) f)
 
 -- any image on any buffers: declined by a number of the table, or begun
 abbrev pub StartAnswer : Started → Type 0
@@ -217,17 +228,17 @@ StartAnswer (begun m) = Unit {0}
 
 pub start-answers : (im : Image) (base : ℕ) (l : Lent) → StartAnswer (start im base l)
 unfolding start starts
-start-answers im base l = by (failing (imageTests (framesOk (length (l .frames)) && (heapOk base (length (l .heap)) && slotsOk (length (l .slots)) (length (l .spare)))) im)) refl
+start-answers im base l = by (failing (imageTests (buffersOk base l) im)) refl
   where
-    by : (o : Option ℕ) → failing (imageTests (framesOk (length (l .frames)) && (heapOk base (length (l .heap)) && slotsOk (length (l .slots)) (length (l .spare)))) im) ≡ o → StartAnswer (starts o base l)
+    by : (o : Option ℕ) → failing (imageTests (buffersOk base l) im) ≡ o → StartAnswer (starts o base l)
     by none f = tt
     by (some k) f = refusal-numbered k (failing-numbered _ k (image-alone _ im) f)
 
 act-refused : (k : Call) (m : Machine) (e : ℕ) → act k m .answer ≡ refused e → act k m .machine ≡ m
 unfolding act runCall hostCall
 act-refused (run im b) m e h = absurd (runs-ends (sizes (m .lent)) im b (length (im .code)) (view m) e h)
-act-refused (light k) m e h = cc
-act-refused (host k) m e h = granted-refused _ k m (hosted k (landOf m)) e h
+act-refused (setting k) m e h = cc
+act-refused (host k) m e h = granted-refused _ k m (hosted k (memoryOf m)) e h
 
 -- 'a refusal changes no buffer', nor the state: of every call, and with the numbers of running out as well
 pub refusal-changes-nothing : (k : Call) (m : Machine) (e : ℕ) → perform k m .answer ≡ refused e → perform k m .machine ≡ m
@@ -237,3 +248,25 @@ refusal-changes-nothing k m e h = by (failing (tests k (m .state) (m .lent))) (u
     by : (o : Option ℕ) → tried o k m .answer ≡ refused e → tried o k m .machine ≡ m
     by none q = act-refused k m e q
     by (some n) q = refl
+
+-- ---- a loaded image
+
+-- the answer of a run that is not refused, under the budget b
+abbrev pub RunEnds : ℕ → Answer → Type 0
+RunEnds b (ended e pc steps) = Listed b e steps
+RunEnds b (value v) = ⊥
+RunEnds b done = ⊥
+RunEnds b (refused e) = ⊥
+
+not-refused : (b : ℕ) (a : Answer) → RunAnswer b a → ((e : ℕ) → a ≡ refused e → ⊥) → RunEnds b a
+not-refused b (ended e pc steps) h n = h
+not-refused b (value v) h n = h
+not-refused b done h n = h
+not-refused b (refused e) h n = n e refl
+
+-- 'A loaded one comes to a listed end within its budget': the image of a start, run on the machine that the start left
+pub loaded-ends : (im : Image) (base b : ℕ) (l : Lent) (m : Machine) → start im base l ≡ begun m → RunEnds b (perform (run im b) m .answer)
+unfolding perform tried act runCall
+loaded-ends im base b l m h =
+    let f = start-passes im base l m b h in
+    rw f (not-refused b _ (run-ends im b m f (length (im .code)) refl) (runs-ends (sizes (m .lent)) im b (length (im .code)) (view m)))

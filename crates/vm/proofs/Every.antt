@@ -1,4 +1,4 @@
--- What every step keeps of registers and land: through an instruction, through what is lent, through a run. Assumes nothing.
+-- What every step keeps of registers and memory: through an instruction, through what is lent, through a run. Assumes nothing.
 use mathlib.Core.Path.{_≡_, refl}
 use Prim.Native.Nat.{ℕ, zero, suc}
 use mathlib.Core.Bool.{Bool, true, false}
@@ -11,8 +11,9 @@ use Rattle.gc.specs.Lent.{pageSize}
 use Rattle.program.specs.declared.Effect.{Effect}
 use Rattle.program.specs.declared.Effect.the-variants as effect
 use Rattle.program.specs.Image.{Image}
-use Rattle.vm.specs.Core.{Core, Land, Sizes, used, short, setReg, setPc, setFrames, setLand, setPages}
-use Rattle.vm.specs.Run.{Step, next, halted, stop, provided, forward, stored8, returned, took, apply, fetched, unless, limited, step, after, go}
+use Rattle.vm.specs.Core.{Core, Memory, Sizes, used, short, setReg, setPc, setFrames, setMemory, setPages}
+use Rattle.vm.specs.Run.{Step, next, halted, stop, provided, forward, stored8, returned, blockTo, apply, fetched, unless, limited}
+use Rattle.vm.specs.Run.{step, after, go}
 use Rattle.vm.proofs.Upward.{go-next, go-halted, go-stop}
 
 -- a step that goes on does so to a core with P
@@ -26,11 +27,11 @@ every-map P Q f (next d) h = f d h
 every-map P Q f halted h = tt
 every-map P Q f (stop e) h = tt
 
--- ---- an instruction, by what it does to registers and land
+-- ---- an instruction, by what it does to registers and memory
 
-module _ (P : List ℕ → Land → Type 0) where
+module _ (P : List ℕ → Memory → Type 0) where
   abbrev pub Of : Core → Type 0
-  Of d = P (d .regs) (d .land)
+  Of d = P (d .regs) (d .memory)
 
   provided-every : (b : Bool) (e : ℕ) (d : Core) → Of d → Every Of (provided b e d)
   unfolding provided
@@ -42,10 +43,13 @@ module _ (P : List ℕ → Land → Type 0) where
   returned-every zero c h = tt
   returned-every (suc d) c h = h
 
-  module _ (c : Core) (same : Of c) (sets : (dst v : ℕ) → P (set (c .regs) dst v) (c .land)) (stores : (a v : ℕ) → P (c .regs) (setPages (stored8 a v (c .land .pages)) (c .land)))
-      (takes : (dst kind n : ℕ) → P (set (c .regs) dst (allocated pageSize kind n (c .land .pages) .address)) (setPages (allocated pageSize kind n (c .land .pages) .pages) (c .land))) where
+  module _ (c : Core) (same : Of c) (sets : (dst v : ℕ) → P (set (c .regs) dst v) (c .memory))
+      (stores : (a v : ℕ) → P (c .regs) (setPages (stored8 a v (c .memory .pages)) (c .memory)))
+      (takes : (dst kind n : ℕ)
+      → P (set (c .regs) dst (allocated pageSize kind n (c .memory .pages) .address))
+      (setPages (allocated pageSize kind n (c .memory .pages) .pages) (c .memory))) where
     pub apply-every : (e : Effect) → Every Of (apply e c)
-    unfolding apply forward setPc setReg setFrames setLand took
+    unfolding apply forward setPc setReg setFrames setMemory blockTo
     apply-every (effect.Set dst v) = sets dst v
     apply-every effect.Skip = same
     apply-every (effect.Goto target) = same
@@ -59,7 +63,8 @@ module _ (P : List ℕ → Land → Type 0) where
 
 -- ---- held to what is lent: it is kept, and fits
 
-unless-every : (P : Core → Type 0) (n : Sizes) (d : Core) (o : Option ℕ) → short n (used d) ≡ o → P d → Every (λ d. P d × (short n (used d) ≡ none)) (unless o d)
+unless-every : (P : Core → Type 0) (n : Sizes) (d : Core) (o : Option ℕ) → short n (used d) ≡ o → P d
+    → Every (λ d. P d × (short n (used d) ≡ none)) (unless o d)
 unfolding unless
 unless-every P n d none e h = (h, e)
 unless-every P n d (some k) e h = tt
@@ -81,7 +86,8 @@ module _ (P : Core → Type 0) (n : Sizes) (im : Image) (c : Core) (asked : (e :
 -- ---- a run
 
 module _ (P : Core → Type 0) (n : Sizes) (im : Image) (each : (c : Core) → P c → Every P (step n im c)) where
-  go-case : (b : ℕ) (c : Core) (x : Step) → step n im c ≡ x → Every P x → P c → ((d : Core) → P d → P (go n im b d .core)) → P (go n im (suc b) c .core)
+  go-case : (b : ℕ) (c : Core) (x : Step) → step n im c ≡ x → Every P x → P c → ((d : Core) → P d → P (go n im b d .core))
+      → P (go n im (suc b) c .core)
   unfolding after go
   go-case b c (next d) p s h ih = rw (go-next n im b c d p) (ih d s)
   go-case b c halted p s h ih = rw (go-halted n im b c p) h

@@ -9,7 +9,7 @@ use native.Mathlib.Omega.{arith}
 use borrow.Author.Tests.{leb-true, le-leb}
 use Rattle.gc.specs.Lent.{pagesOf}
 use Rattle.vm.specs.Core.{Core, Sizes, used, lacking, short}
-use Rattle.vm.specs.Machine.{Machine, sizes, landOf, view}
+use Rattle.vm.specs.Machine.{Machine, sizes, memoryOf, view}
 use Rattle.vm.specs.Core.{_⊑_, spent}
 
 lacking-none : (a b c : Bool) → lacking a b c ≡ none → (a ≡ true) × (b ≡ true) × (c ≡ true)
@@ -51,8 +51,9 @@ take-fits (suc n) [] = omega arith
 take-fits (suc n) (x ∷ l) = let h = take-fits n l in omega arith
 
 -- a core that uses of each buffer what the machine does
-pub view-fits : (m : Machine) (c : Core) → length (c .frames) ≡ length (view m .frames) → c .land ≡ view m .land → short (sizes (m .lent)) (used c) ≡ none
-unfolding used view sizes landOf pagesOf
+pub view-fits : (m : Machine) (c : Core) → length (c .frames) ≡ length (view m .frames) → c .memory ≡ view m .memory
+    → short (sizes (m .lent)) (used c) ≡ none
+unfolding used view sizes memoryOf pagesOf
 view-fits m c e l =
     none-of _ _
     (record {

@@ -29,7 +29,10 @@ fitted-grows true flags n p e h =
     record { more = rw length-write (omega arith); ends = rw length-write (omega arith) }
 fitted-grows false flags n p e h =
     let room = grow-enough pageSize n (omega arith) in
-    record { more = rw (length-write, length-append, length-replicate) (omega arith); ends = rw (length-write, length-append, length-replicate) (omega arith) }
+    record {
+      more = rw (length-write, length-append, length-replicate) (omega arith);
+      ends = rw (length-write, length-append, length-replicate) (omega arith);
+    }
 
 pub allocated-grows : (flags n : ℕ) (p : Pages) → Ends p → Grows p (allocated pageSize flags n p .pages)
 unfolding allocated
@@ -45,21 +48,25 @@ unfolding stored8 setBytes
 stored-grows a v p h = record { more = rw length-write (omega arith); ends = rw length-write h }
 
 abbrev pub GrowsStep : Pages → Step → Type 0
-GrowsStep p x = Every (λ d. Grows p (d .land .pages)) x
+GrowsStep p x = Every (λ d. Grows p (d .memory .pages)) x
 
-pub step-grows : (n : Sizes) (im : Image) (c : Core) → Ends (c .land .pages) → GrowsStep (c .land .pages) (step n im c)
+pub step-grows : (n : Sizes) (im : Image) (c : Core) → Ends (c .memory .pages) → GrowsStep (c .memory .pages) (step n im c)
 unfolding setPages
 step-grows n im c h =
-    let p = c .land .pages in
-    step-every (λ d. Grows p (d .land .pages)) n im c (apply-every (λ r l. Grows p (l .pages)) c (same p h) (λ dst v. same p h) (λ a v. stored-grows a v p h) (λ dst kind m. allocated-grows kind m p h))
+    let p = c .memory .pages in
+    step-every (λ d. Grows p (d .memory .pages)) n im c
+    (apply-every (λ r l. Grows p (l .pages)) c (same p h) (λ dst v. same p h) (λ a v. stored-grows a v p h)
+    (λ dst kind m. allocated-grows kind m p h))
 
 -- ---- a run
 
 grows-next : {p q r : Pages} → Grows p q → Grows q r → Grows p r
 grows-next g k = record { more = omega (arith, g .more, k .more); ends = k .ends }
 
-pub go-grows : (n : Sizes) (im : Image) (b : ℕ) (c : Core) → Ends (c .land .pages) → length (c .land .pages .bytes) ≤ length (go n im b c .core .land .pages .bytes)
+pub go-grows : (n : Sizes) (im : Image) (b : ℕ) (c : Core) → Ends (c .memory .pages)
+    → length (c .memory .pages .bytes) ≤ length (go n im b c .core .memory .pages .bytes)
 go-grows n im b c h =
-    let p = c .land .pages in
-    let Grown : Core → Type 0 = λ d. Grows p (d .land .pages) in
-    go-every Grown n im (λ d g. every-map (λ e. Grows (d .land .pages) (e .land .pages)) Grown (λ e k. grows-next g k) (step n im d) (step-grows n im d (g .ends))) b c (same p h) .more
+    let p = c .memory .pages in
+    let Grown : Core → Type 0 = λ d. Grows p (d .memory .pages) in
+    go-every Grown n im (λ d g. every-map (λ e. Grows (d .memory .pages) (e .memory .pages)) Grown (λ e k. grows-next g k) (step n im d)
+    (step-grows n im d (g .ends))) b c (same p h) .more

@@ -15,7 +15,10 @@ use Rattle.value.specs.declared.int.Divided.{Divided}
 use Rattle.value.specs.declared.int.Divided.the-variants.{Exact, ByZero, Overflow}
 use Rattle.value.specs.Cast.{truth}
 use Rattle.op.specs.declared.Op.{Op}
-use Rattle.op.specs.declared.Op.the-variants.{IAdd, IAddI, ISub, ISubI, IMul, IMulI, IDiv, IDivI, IMod, IModI, IAnd, IAndI, ILt, IGt, IEq, IEqI, IGtI, ILtI, DAdd, DSub, DMul, DDiv, DLt, DGt, BEq, SEq, Mov, LoadI, LoadG, Jmp, JmpT, JmpF, JmpEqI, JmpNeI, JmpSEq, JmpSNe, Switch, Lookup, Tail, Call, CastToInt, CastToDouble, CastToBool, Alloc, Store, Load, AddrOf, Ret, Assert, Halt, Nop}
+use Rattle.op.specs.declared.Op.the-variants.{IAdd, IAddI, ISub, ISubI, IMul, IMulI, IDiv, IDivI, IMod, IModI, IAnd, IAndI, ILt, IGt, IEq}
+use Rattle.op.specs.declared.Op.the-variants.{IEqI, IGtI, ILtI, DAdd, DSub, DMul, DDiv, DLt, DGt, BEq, SEq, Mov, LoadI, LoadG, Jmp, JmpT}
+use Rattle.op.specs.declared.Op.the-variants.{JmpF, JmpEqI, JmpNeI, JmpSEq, JmpSNe, Switch, Lookup, Tail, Call, CastToInt, CastToDouble}
+use Rattle.op.specs.declared.Op.the-variants.{CastToBool, Alloc, Store, Load, AddrOf, Ret, Assert, Halt, Nop}
 use Rattle.op.specs.declared.Decoded.{Decoded}
 use Rattle.op.specs.declared.Checked.{Checked}
 use Rattle.op.specs.Layout.{partsOf, passes, unused}
@@ -25,10 +28,10 @@ use Rattle.op.specs.Operands.{okOp, Within}
 use Rattle.op.proofs.Sound.{fine}
 use Rattle.program.specs.declared.Effect.{Effect}
 use Rattle.program.specs.declared.Effect.the-variants as effect
-use Rattle.vm.specs.Core.{Core, Sizes, used, lacking, short, _⊑_, setReg, setPc, setFrames, setLand}
+use Rattle.vm.specs.Core.{Core, Sizes, used, lacking, short, _⊑_, setReg, setPc, setFrames, setMemory}
 use Rattle.program.specs.Image.{Image, startOf, entriesOf, counts, below}
 use Rattle.program.specs.Effect.{divided, jumpIf, within, switched, effectOf, wordEffect}
-use Rattle.vm.specs.Run.{Step, next, halted, stop, provided, forward, returned, took, apply, fetched, unless, limited, step}
+use Rattle.vm.specs.Run.{Step, next, halted, stop, provided, forward, returned, blockTo, apply, fetched, unless, limited, step}
 use Rattle.vm.specs.Loaded.{Checks, Returns, Writable}
 use Rattle.vm.proofs.Kept.{Kept, KeptStep, apply-kept}
 
@@ -97,7 +100,8 @@ entries-ok n im k h =
     let from = startOf (im .switches .ends) k in
     below-take n (getD (im .switches .ends) k 0 - from) (drop from (im .switches .entries)) (below-drop n from (im .switches .entries) h)
 
-effect-ok : (im : Image) (r : List ℕ) (op : Op) → below (length (im .code)) (im .switches .entries) ≡ true → okOp op → Within (counts im) (reachOf op) → EffectOk (length (im .code)) (effectOf im r op)
+effect-ok : (im : Image) (r : List ℕ) (op : Op) → below (length (im .code)) (im .switches .entries) ≡ true → okOp op
+    → Within (counts im) (reachOf op) → EffectOk (length (im .code)) (effectOf im r op)
 unfolding effectOf counts
 effect-ok im r (IAdd dst lhs rhs) t o h = o .0
 effect-ok im r (IAddI dst lhs imm) t o h = o .0
@@ -165,7 +169,8 @@ writable n effect.Halt o = tt
 
 -- ---- the word at the pc
 
-pub word-ok : (im : Image) (r : List ℕ) (w : ℕ) → Checks im → checkOf (counts im) w ≡ Checked.Fine → EffectOk (length (im .code)) (wordEffect im r (decodeOf w))
+pub word-ok : (im : Image) (r : List ℕ) (w : ℕ) → Checks im → checkOf (counts im) w ≡ Checked.Fine
+    → EffectOk (length (im .code)) (wordEffect im r (decodeOf w))
 unfolding wordEffect
 word-ok im r w k h = let runs = fine (counts im) w h in rw (runs .decodes) (effect-ok im r (runs .op) (k .targets) (runs .ok) (runs .there))
 
@@ -178,7 +183,8 @@ halt-word : (w : ℕ) (op : Op) → w % 256 ≡ 59 → decodeOf w ≡ Decoded.Op
 unfolding decodeOf rows decodedBy
 halt-word w op e h = only-halt (passes unused unused unused unused (partsOf w)) op (row 59 refl ∙ h)
   where
-    row : (k : ℕ) → k ≡ 59 → cond (passes unused unused unused unused (partsOf w)) (Decoded.Op Halt) (Decoded.Refused 13) ≡ decodedBy (rowOf (w % 256)) (partsOf w)
+    row : (k : ℕ) → k ≡ 59 → cond (passes unused unused unused unused (partsOf w)) (Decoded.Op Halt) (Decoded.Refused 13)
+        ≡ decodedBy (rowOf (w % 256)) (partsOf w)
     row k q = rw (ap (λ (j : ℕ). decodedBy (rowOf j) (partsOf w)) e) refl
 
 halt-effect : (im : Image) (r : List ℕ) (w : ℕ) → checkOf (counts im) w ≡ Checked.Fine → w % 256 ≡ 59 → wordEffect im r (decodeOf w) ≡ effect.Halt
@@ -222,7 +228,7 @@ module _ (n : ℕ) (c : Core) (i : Inside n c) (more : c .pc + 1 < n) where
   returned-ok (suc d) e = record { here = returns-at n d (c .frames) (i .returns) (omega arith); returns = returns-take n d (c .frames) (i .returns) }
 
   apply-ok : (e : Effect) → EffectOk n e → StepOk n (apply e c)
-  unfolding apply forward setPc setReg setFrames setLand took
+  unfolding apply forward setPc setReg setFrames setMemory blockTo
   apply-ok (effect.Set dst v) o = record { here = more; returns = i .returns }
   apply-ok effect.Skip o = record { here = more; returns = i .returns }
   apply-ok (effect.Goto target) o = record { here = o; returns = i .returns }
@@ -243,19 +249,19 @@ lacking-listed true false e h = let q : 2 ≡ e = cc in rw (← q) refl
 lacking-listed true true e h = cc
 
 module _ (L : Sizes) (n : ℕ) (c : Core) (fit : used c ⊑ L) where
-  short-listed : (d : Core) (e : ℕ) → Kept (c .land) (d .land) → short L (used d) ≡ some e → isAnomaly e ≡ true
+  short-listed : (d : Core) (e : ℕ) → Kept (c .memory) (d .memory) → short L (used d) ≡ some e → isAnomaly e ≡ true
   unfolding short used
   short-listed d e k h =
       let s = fit .slots in
-      let slots : leb (length (d .land .slots)) (L .slots) ≡ true = rw (k .slots) (le-leb (length (c .land .slots)) (L .slots) s) in
+      let slots : leb (length (d .memory .slots)) (L .slots) ≡ true = rw (k .slots) (le-leb (length (c .memory .slots)) (L .slots) s) in
       lacking-listed _ _ e (rw slots at h)
 
-  unless-ok : (d : Core) (o : Option ℕ) → short L (used d) ≡ o → Kept (c .land) (d .land) → Inside n d → StepOk n (unless o d)
+  unless-ok : (d : Core) (o : Option ℕ) → short L (used d) ≡ o → Kept (c .memory) (d .memory) → Inside n d → StepOk n (unless o d)
   unfolding unless
   unless-ok d none e k i = i
   unless-ok d (some x) e k i = short-listed d x k e
 
-  limited-ok : (x : Step) → KeptStep (c .land) x → StepOk n x → StepOk n (limited L x)
+  limited-ok : (x : Step) → KeptStep (c .memory) x → StepOk n x → StepOk n (limited L x)
   unfolding limited
   limited-ok (next d) k i = unless-ok d (short L (used d)) refl k i
   limited-ok halted k i = tt

@@ -15,7 +15,8 @@ use Rattle.gc.specs.Lent.{pageSize, Outcome, outcome, numbersOf}
 use Rattle.op.specs.declared.Checked.{Checked}
 use Rattle.vm.specs.declared.State.{State}
 use Rattle.program.specs.Image.{Image, test, imageOk, imageTests, failing, verdict}
-use Rattle.vm.specs.Machine.{Lent, Machine, done, refused, traced, withPages, withFrames, unset, framesOk, heapOk, slotsOk, firstLand, blank, begin, starts, start}
+use Rattle.vm.specs.Machine.{Lent, Machine, done, refused, traced, withPages, withFrames, unset, framesOk, heapOk, firstMemory}
+use Rattle.vm.specs.Machine.{blank, begin, starts, buffersOk, start}
 use Rattle.vm.specs.Told.{lentOf, machineOf, startedOn}
 use Rattle.program.proofs.Tests.{failing-cons}
 use Rattle.vm.proofs.Refusals.{failing-numbered, image-alone}
@@ -25,7 +26,8 @@ use Rattle.vm.proofs.Ends.{refusal-numbered}
 
 -- ---- the first box granted, and frame 0
 
-module _ (base : ℕ) (frames heap slots spare : List ℕ) (r : Alloc) (x : List ℕ) (e : outcome r x ≡ outcome (Alloc.At (base + 16) (numbersOf (firstLand base .pages))) (over (firstLand base .pages .bytes) heap)) where
+module _ (base : ℕ) (frames heap slots spare : List ℕ) (r : Alloc) (x : List ℕ)
+    (e : outcome r x ≡ outcome (Alloc.At (base + 16) (numbersOf (firstMemory base .pages))) (over (firstMemory base .pages .bytes) heap)) where
   pub never-refused : r ≡ Alloc.Refused → ⊥
   never-refused q =
       let a = ap (λ (o : Outcome). o .answer) e in
@@ -33,11 +35,12 @@ module _ (base : ℕ) (frames heap slots spare : List ℕ) (r : Alloc) (x : List
       absurd (omega arith)
 
   pub begun-with : (a : ℕ) (g : Gc) → r ≡ Alloc.At a g → (s : State) → ((l : Lent) → machineOf s l ≡ blank base l)
-      → machineOf (record { regs = s .regs; pc = s .pc; depth = 1; gc = g; strings = s .strings }) (lentOf (set frames 0 unset) x slots spare) ≡ begin base (lentOf frames heap slots spare)
+      → machineOf (record { regs = s .regs; pc = s .pc; depth = 1; gc = g; strings = s .strings })
+      (lentOf (set frames 0 unset) x slots spare) ≡ begin base (lentOf frames heap slots spare)
   unfolding begin withFrames withPages blank traced
   begun-with a g q s h =
       let answer = ap (λ (o : Outcome). o .answer) e in
-      let n : g ≡ numbersOf (firstLand base .pages) = cc in
+      let n : g ≡ numbersOf (firstMemory base .pages) = cc in
       let b : s ≡ blank base (lentOf frames heap slots spare) .state = ap (λ (m : Machine). m .state) (h (lentOf frames heap slots spare)) in
       rw (b, n, ap (λ (o : Outcome). o .heap) e, over-first) refl
 
@@ -63,12 +66,9 @@ module _ (lent : Bool) (im : Image) where
   pub refused-listed : (k : ℕ) → failing (imageTests lent im) ≡ some k → isRefusal k ≡ true
   refused-listed k f = refusal-numbered k (failing-numbered _ k (image-alone lent im) f)
 
--- what 10 says of the buffers of a start
-abbrev pub buffersOk : ℕ → Lent → Bool
-buffersOk base l = framesOk (length (l .frames)) && (heapOk base (length (l .heap)) && slotsOk (length (l .slots)) (length (l .spare)))
-
 module _ (im : Image) (base : ℕ) (l : Lent) where
-  pub start-refused : (k r : ℕ) (m : Machine) → failing (imageTests (buffersOk base l) im) ≡ some k → r ≡ k → m ≡ blank base l → record { answer = refused r; machine = m } ≡ startedOn (start im base l) base l
+  pub start-refused : (k r : ℕ) (m : Machine) → failing (imageTests (buffersOk base l) im) ≡ some k → r ≡ k → m ≡ blank base l
+      → record { answer = refused r; machine = m } ≡ startedOn (start im base l) base l
   unfolding start starts startedOn
   start-refused k r m f e b = rw (f, starts, startedOn, e, b) refl
 

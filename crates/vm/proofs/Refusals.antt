@@ -19,19 +19,20 @@ use Rattle.op.specs.Layout.{isAlignment}
 use Rattle.op.specs.Reach.{checkOf}
 use Rattle.op.proofs.Sound.{check-refuses}
 use Rattle.vm.specs.declared.State.{State}
-use Rattle.vm.specs.Core.{Core, Land, Sizes, used}
+use Rattle.vm.specs.Core.{Core, Memory, Sizes, used}
 use Rattle.program.specs.Image.{Image, Test, test, wordTest, wordTests, counts, imageTests, failing}
-use Rattle.vm.specs.Machine.{Lent, Machine, sizes, landOf, view, reset, putPc, putReg, allocate, option, intern, internSmall, Call, run, light, host, heapOk, slotsOk, returnsOk, framesBelong, pagesBelong, namesBelong, smallOk, tests}
+use Rattle.vm.specs.Machine.{Lent, Machine, sizes, memoryOf, view, reset, putPc, putReg, allocate, option, intern, internSmall, Call}
+use Rattle.vm.specs.Machine.{run, setting, host, heapOk, returnsOk, framesBelong, pagesBelong, namesBelong, smallOk, Found, found, testsBy, tests}
 use Rattle.vm.specs.Core.{_⊑_, spent}
 use Rattle.vm.proofs.Fits.{fits-of}
 use Rattle.vm.proofs.Holds.{Holds}
 
 -- ---- the clauses of 9, on the parts in use
 
-pub pagesOn : Land → Bool
+unfoldable pub pagesOn : Memory → Bool
 pagesOn l = Heap.soundOf (numbersOf (l .pages)) (length (l .pages .bytes))
 
-pub tableOn : Land → Bool
+pub tableOn : Memory → Bool
 tableOn l =
     (leb (length (l .slots)) (length (l .slots)) && (eqb (length (l .slots)) 0 || Table.slotCount (length (l .slots))))
     && Table.slotsOk (l .pages .base) (length (l .pages .bytes)) (l .names) (l .slots)
@@ -61,33 +62,35 @@ module _ (n : Sizes) (c : Core) (m : Machine) (h : Holds n c m) where
   unfolding framesBelong
   frames-same k = rw (depth-fits, frames-are) refl
 
-  pages-same : pagesBelong (m .state) (m .lent) ≡ pagesOn (c .land)
+  pages-same : pagesBelong (m .state) (m .lent) ≡ pagesOn (c .memory)
   unfolding pagesBelong pagesOn sizes used numbersOf
   pages-same =
       let e : length (m .lent .heap) ≡ n .heap = ap (λ (z : Sizes). z .heap) (h .lent) in
       let k = fit .heap in
       rw (h .gc) (sound-lent _ _ (omega arith))
 
-  slots-are : take (m .state .strings .active) (m .lent .slots) ≡ c .land .slots
-  unfolding view landOf
-  slots-are = ap (λ (d : Core). d .land .slots) (h .core)
+  slots-are : take (m .state .strings .active) (m .lent .slots) ≡ c .memory .slots
+  unfolding view memoryOf
+  slots-are = ap (λ (d : Core). d .memory .slots) (h .core)
 
-  active-is : m .state .strings .active ≡ length (c .land .slots)
+  active-is : m .state .strings .active ≡ length (c .memory .slots)
   active-is = ap (λ (t : StrTable). t .active) (h .strings)
 
-  len-is : m .state .strings .len ≡ c .land .names
+  len-is : m .state .strings .len ≡ c .memory .names
   len-is = ap (λ (t : StrTable). t .len) (h .strings)
 
-  table-same : Table.soundOf (m .state .gc .base) (m .state .gc .pushed) (m .state .strings) (m .lent .slots) ≡ tableOn (c .land)
+  table-same : Table.soundOf (m .state .gc .base) (m .state .gc .pushed) (m .state .strings) (m .lent .slots) ≡ tableOn (c .memory)
   unfolding Table.soundOf Table.activeOk tableOn sizes used numbersOf
   table-same =
       let e : length (m .lent .slots) ≡ n .slots = ap (λ (z : Sizes). z .slots) (h .lent) in
       let k = fit .slots in
-      let within : leb (length (c .land .slots)) (length (m .lent .slots)) ≡ true = le-leb (length (c .land .slots)) (length (m .lent .slots)) (omega arith) in
-      let self : leb (length (c .land .slots)) (length (c .land .slots)) ≡ true = le-leb (length (c .land .slots)) (length (c .land .slots)) (omega arith) in
+      let within : leb (length (c .memory .slots)) (length (m .lent .slots))
+      ≡ true = le-leb (length (c .memory .slots)) (length (m .lent .slots)) (omega arith) in
+      let self : leb (length (c .memory .slots)) (length (c .memory .slots))
+      ≡ true = le-leb (length (c .memory .slots)) (length (c .memory .slots)) (omega arith) in
       rw (slots-are, h .gc, active-is, len-is, within, self) refl
 
-  names-same : namesBelong (m .state) (m .lent) ≡ (pagesOn (c .land) && tableOn (c .land))
+  names-same : namesBelong (m .state) (m .lent) ≡ (pagesOn (c .memory) && tableOn (c .memory))
   unfolding namesBelong
   names-same = ap₂ _&&_ pages-same table-same
 
@@ -97,22 +100,26 @@ module _ (n : Sizes) (c : Core) (m : Machine) (h : Holds n c m) where
 
 -- ---- all tests of a call
 
+-- what a call finds on a machine that holds a core
+abbrev pub foundOn : Core → Found
+foundOn c = record {
+  frames-fit = true;
+  heap-fits = true;
+  slots-fit = true;
+  frames = λ n. returnsOk n (c .frames);
+  pages = pagesOn (c .memory);
+  names = pagesOn (c .memory) && tableOn (c .memory);
+}
+
 unfoldable pub testsOn : Call → Core → List Test
-testsOn (run im b) c = imageTests true im ++ (test (returnsOk (length (im .code)) (c .frames) && pagesOn (c .land)) 9 ∷ [])
-testsOn (light reset) c = test true 10 ∷ []
-testsOn (light (putPc p)) c = []
-testsOn (light (putReg r v)) c = test (ltb r 32) 13 ∷ []
-testsOn (host (allocate kind align n)) c = test true 10 ∷ test (ltb kind 4 && isAlignment align) 13 ∷ test (pagesOn (c .land)) 9 ∷ []
-testsOn (host (option o)) c = test true 10 ∷ test (pagesOn (c .land)) 9 ∷ []
-testsOn (host (intern s)) c = test true 10 ∷ test (pagesOn (c .land) && tableOn (c .land)) 9 ∷ []
-testsOn (host (internSmall n w)) c = test true 10 ∷ test (pagesOn (c .land) && tableOn (c .land)) 9 ∷ test (smallOk n w) 17 ∷ []
+testsOn k c = testsBy k (foundOn c)
 
 pub tests-are : (n : Sizes) (k : Call) (c : Core) (m : Machine) → Holds n c m → tests k (m .state) (m .lent) ≡ testsOn k c
-unfolding tests testsOn
+unfolding tests testsBy testsOn
 tests-are n (run im b) c m h = rw (h .frames-ok, base-legal n c m h, frames-same n c m h, pages-same n c m h) refl
-tests-are n (light reset) c m h = rw (h .frames-ok) refl
-tests-are n (light (putPc p)) c m h = refl
-tests-are n (light (putReg r v)) c m h = refl
+tests-are n (setting reset) c m h = rw (h .frames-ok) refl
+tests-are n (setting (putPc p)) c m h = refl
+tests-are n (setting (putReg r v)) c m h = refl
 tests-are n (host (allocate kind align z)) c m h = rw (base-legal n c m h, pages-same n c m h) refl
 tests-are n (host (option o)) c m h = rw (base-legal n c m h, pages-same n c m h) refl
 tests-are n (host (intern s)) c m h = rw (base-legal n c m h, h .slots-ok, names-same n c m h) refl
@@ -129,7 +136,8 @@ unfolding Numbered
 numbered-append [] us h k = k
 numbered-append (t ∷ ts) us h k = (h .0, numbered-append ts us (h .1) k)
 
-word-numbered : (n : Counts) (w : ℕ) (x : Checked) → checkOf n w ≡ x → wordTest x .passes ≡ false → (9 ≤ wordTest x .number) × (wordTest x .number ≤ 17)
+word-numbered : (n : Counts) (w : ℕ) (x : Checked) → checkOf n w ≡ x → wordTest x .passes ≡ false
+    → (9 ≤ wordTest x .number) × (wordTest x .number ≤ 17)
 unfolding wordTest
 word-numbered n w Checked.Fine e h = absurd (true≢false h)
 word-numbered n w (Checked.Refused k) e h = let r = check-refuses n w k e in (omega arith, omega arith)
@@ -142,37 +150,48 @@ words-numbered n (w ∷ ws) = (word-numbered n w (checkOf n w) refl, words-numbe
 -- the tests of an image, with those that follow in a run
 pub image-numbered : (lent : Bool) (im : Image) (rest : List Test) → Numbered rest → Numbered (imageTests lent im ++ rest)
 unfolding imageTests Numbered
-image-numbered lent im rest h =
-    (λ _. (lit≤ tt, lit≤ tt), (λ _. (lit≤ tt, lit≤ tt), (λ _. (lit≤ tt, lit≤ tt), numbered-append (wordTests (counts im) (im .code)) rest (words-numbered (counts im) (im .code)) h)))
+image-numbered lent im rest h = (
+  λ _. (lit≤ tt, lit≤ tt),
+  (
+    λ _. (lit≤ tt, lit≤ tt),
+    (λ _. (lit≤ tt, lit≤ tt), numbered-append (wordTests (counts im) (im .code)) rest (words-numbered (counts im) (im .code)) h),
+  ),
+)
 
 pub image-alone : (lent : Bool) (im : Image) → Numbered (imageTests lent im)
 unfolding Numbered
 image-alone lent im = subst Numbered (append-nil (imageTests lent im)) (image-numbered lent im [] tt)
 
-pub call-numbered : (k : Call) (s : State) (l : Lent) → Numbered (tests k s l)
-unfolding tests Numbered
-call-numbered (run im b) s l = image-numbered _ im _ (λ _. (lit≤ tt, lit≤ tt), tt)
-call-numbered (light reset) s l = (λ _. (lit≤ tt, lit≤ tt), tt)
-call-numbered (light (putPc p)) s l = tt
-call-numbered (light (putReg r v)) s l = (λ _. (lit≤ tt, lit≤ tt), tt)
-call-numbered (host (allocate kind align n)) s l = (λ _. (lit≤ tt, lit≤ tt), (λ _. (lit≤ tt, lit≤ tt), (λ _. (lit≤ tt, lit≤ tt), tt)))
-call-numbered (host (option o)) s l = (λ _. (lit≤ tt, lit≤ tt), (λ _. (lit≤ tt, lit≤ tt), tt))
-call-numbered (host (intern n)) s l = (λ _. (lit≤ tt, lit≤ tt), (λ _. (lit≤ tt, lit≤ tt), tt))
-call-numbered (host (internSmall n w)) s l = (λ _. (lit≤ tt, lit≤ tt), (λ _. (lit≤ tt, lit≤ tt), (λ _. (lit≤ tt, lit≤ tt), tt)))
+pub call-numbered : (k : Call) (f : Found) → Numbered (testsBy k f)
+unfolding testsBy Numbered
+call-numbered (run im b) f = image-numbered _ im _ (λ _. (lit≤ tt, lit≤ tt), tt)
+call-numbered (setting reset) f = (λ _. (lit≤ tt, lit≤ tt), tt)
+call-numbered (setting (putPc p)) f = tt
+call-numbered (setting (putReg r v)) f = (λ _. (lit≤ tt, lit≤ tt), tt)
+call-numbered (host (allocate kind align n)) f = (λ _. (lit≤ tt, lit≤ tt), (λ _. (lit≤ tt, lit≤ tt), (λ _. (lit≤ tt, lit≤ tt), tt)))
+call-numbered (host (option o)) f = (λ _. (lit≤ tt, lit≤ tt), (λ _. (lit≤ tt, lit≤ tt), tt))
+call-numbered (host (intern n)) f = (λ _. (lit≤ tt, lit≤ tt), (λ _. (lit≤ tt, lit≤ tt), tt))
+call-numbered (host (internSmall n w)) f = (λ _. (lit≤ tt, lit≤ tt), (λ _. (lit≤ tt, lit≤ tt), (λ _. (lit≤ tt, lit≤ tt), tt)))
 
 pub failing-numbered : (ts : List Test) (k : ℕ) → Numbered ts → failing ts ≡ some k → (9 ≤ k) × (k ≤ 17)
 unfolding failing Numbered
 failing-numbered [] k u e = let z : _≡_ {A = ℕ} 0 1 = cc in absurd (omega arith)
 failing-numbered (t ∷ ts) k u e = by (t .passes) refl (failing-numbered ts k (u .1)) (unfold failing in e)
   where
-    by : (b : Bool) → t .passes ≡ b → (failing ts ≡ some k → (9 ≤ k) × (k ≤ 17)) → (elim b [ true ↦ failing ts | false ↦ some (t .number) ]) ≡ some k → (9 ≤ k) × (k ≤ 17)
+    by : (b : Bool) → t .passes ≡ b → (failing ts ≡ some k → (9 ≤ k) × (k ≤ 17))
+        → (elim b [ true ↦ failing ts | false ↦ some (t .number) ]) ≡ some k → (9 ≤ k) × (k ≤ 17)
     by true p ih q = ih q
     by false p ih q = let z : t .number ≡ k = cc in rw (← z) (u .0 p)
 
 pub numbered-unspent : (k : ℕ) → (9 ≤ k) × (k ≤ 17) → spent k ≡ false
 unfolding spent
-numbered-unspent k h = rw (ne-eqb k 2 (λ e. omega arith), ne-eqb k 3 (λ e. omega arith), ne-eqb k 5 (λ e. omega arith), ne-eqb k 18 (λ e. omega arith)) refl
+numbered-unspent k h = rw (
+  ne-eqb k 2 (λ e. omega arith),
+  ne-eqb k 3 (λ e. omega arith),
+  ne-eqb k 5 (λ e. omega arith),
+  ne-eqb k 18 (λ e. omega arith),
+) refl
 
 pub run-unspent : (im : Image) (b : ℕ) (c : Core) (k : ℕ) → failing (testsOn (run im b) c) ≡ some k → spent k ≡ false
-unfolding testsOn Numbered
+unfolding testsOn testsBy Numbered
 run-unspent im b c k f = numbered-unspent k (failing-numbered _ k (image-numbered true im _ (λ _. (lit≤ tt, lit≤ tt), tt)) f)

@@ -9,7 +9,9 @@ use Rattle.program.specs.Image.{Image, failing}
 use Rattle.vm.specs.Core.{Sizes, Core, setPc, setFrames}
 use Rattle.vm.specs.Names.{Given}
 use Rattle.vm.specs.Run.{step, go, entered, stored}
-use Rattle.vm.specs.Machine.{Machine, sizes, view, withPages, withNames, withFrames, withRegs, laid, Call, run, light, host, reset, putPc, putReg, Host, allocate, option, intern, internSmall, Called, ran, idle, runs, lightly, runLeaves, hostLeaves, granted, hostCall, runCall, act, tests, tried, perform}
+use Rattle.vm.specs.Machine.{Machine, sizes, view, withPages, withNames, withFrames, withRegs, laid, Call, run, setting, host, reset}
+use Rattle.vm.specs.Machine.{putPc, putReg, Host, allocate, option, intern, internSmall, Called, ran, idle, runs, withSetting, runLeaves}
+use Rattle.vm.specs.Machine.{hostLeaves, granted, hostCall, runCall, act, tests, tried, perform}
 use Rattle.vm.proofs.Runs.{runs-go, runs-past}
 use Rattle.vm.proofs.Every.{every-map, apply-every, step-every, go-every}
 
@@ -18,7 +20,10 @@ use Rattle.vm.proofs.Every.{every-map, apply-every, step-every, go-ever
 go-regs : (n : Sizes) (im : Image) (b : ℕ) (c : Core) → length (go n im b c .core .regs) ≡ length (c .regs)
 go-regs n im b c =
     let As : Core → Core → Type 0 = λ e d. length (d .regs) ≡ length (e .regs) in
-    go-every (As c) n im (λ d h. every-map (As d) (As c) (λ e k. k ∙ h) (step n im d) (step-every (As d) n im d (apply-every (λ r l. length r ≡ length (d .regs)) d refl (length-set (d .regs)) (λ a v. refl) (λ dst kind k. length-set (d .regs) dst _)))) b c refl
+    go-every (As c) n im (λ d h. every-map (As d) (As c) (λ e k. k ∙ h) (step n im d)
+    (step-every (As d) n im d
+    (apply-every (λ r l. length r ≡ length (d .regs)) d refl (length-set (d .regs)) (λ a v. refl)
+    (λ dst kind k. length-set (d .regs) dst _)))) b c refl
 
 abbrev SameRegs : Core → Core → Type 0
 SameRegs c d = d .regs ≡ c .regs
@@ -27,7 +32,8 @@ stored-regs : (e p : ℕ) (c : Core) → SameRegs c (stored e p c)
 unfolding stored setPc
 stored-regs e p c = elim (eqb e 0 || eqb e 5) as (λ t. SameRegs c (elim t [ true ↦ c | false ↦ setPc p c ])) [ true ↦ refl | false ↦ refl ]
 
-runs-case : (n : Sizes) (im : Image) (b k : ℕ) (c : Core) (t : Bool) → ltb (c .pc) (suc k) ≡ t → length (runs n im b (suc k) c .core .regs) ≡ length (c .regs)
+runs-case : (n : Sizes) (im : Image) (b k : ℕ) (c : Core) (t : Bool) → ltb (c .pc) (suc k) ≡ t
+    → length (runs n im b (suc k) c .core .regs) ≡ length (c .regs)
 unfolding ran idle entered setFrames
 runs-case n im b k c false q = rw (runs-past n im b k c q) (ap length (stored-regs 0 (c .pc) (entered (suc k) c)))
 runs-case n im b k c true q = rw (runs-go n im b k c q) (ap length (stored-regs _ (c .pc) _) ∙ go-regs n im b (entered (suc k) c))
@@ -53,11 +59,11 @@ module _ (m : Machine) where
   granted-same none (internSmall n w) g = refl
 
   act-same : (k : Call) → Same (act k m)
-  unfolding act runCall runLeaves laid hostCall lightly withRegs withFrames view
+  unfolding act runCall runLeaves laid hostCall withSetting withRegs withFrames view
   act-same (run im b) = runs-regs (sizes (m .lent)) im b (length (im .code)) (view m)
-  act-same (light reset) = refl
-  act-same (light (putPc p)) = refl
-  act-same (light (putReg r v)) = length-set (m .state .regs) r v
+  act-same (setting reset) = refl
+  act-same (setting (putPc p)) = refl
+  act-same (setting (putReg r v)) = length-set (m .state .regs) r v
   act-same (host k) = granted-same _ k _
 
   tried-same : (o : Option ℕ) (k : Call) → Same (tried o k m)

@@ -24,11 +24,13 @@ entered-used : (k : ℕ) (c : Core) → used (entered k c) ≡ used c
 unfolding entered setFrames used
 entered-used k c = rw (length-set (c .frames) 0 (root k)) refl
 
-pub runs-go : (n : Sizes) (im : Image) (b k : ℕ) (c : Core) → ltb (c .pc) (suc k) ≡ true → runs n im b (suc k) c ≡ ran (suc k) (c .pc) (go n im b (entered (suc k) c))
+pub runs-go : (n : Sizes) (im : Image) (b k : ℕ) (c : Core) → ltb (c .pc) (suc k) ≡ true
+    → runs n im b (suc k) c ≡ ran (suc k) (c .pc) (go n im b (entered (suc k) c))
 unfolding runs
 runs-go n im b k c f = rw (f, runs) refl
 
-pub runs-past : (n : Sizes) (im : Image) (b k : ℕ) (c : Core) → ltb (c .pc) (suc k) ≡ false → runs n im b (suc k) c ≡ ran (suc k) (c .pc) (idle (entered (suc k) c))
+pub runs-past : (n : Sizes) (im : Image) (b k : ℕ) (c : Core) → ltb (c .pc) (suc k) ≡ false
+    → runs n im b (suc k) c ≡ ran (suc k) (c .pc) (idle (entered (suc k) c))
 unfolding runs
 runs-past n im b k c f = rw (f, runs) refl
 
@@ -37,12 +39,13 @@ unfolding entered setFrames
 entered-good n k c d g = g
 
 -- a run keeps the names, and stays within what is lent
-runs-case : (n : Sizes) (im : Image) (b k : ℕ) (c : Core) (t : Bool) → ltb (c .pc) (suc k) ≡ t → short n (used c) ≡ none → Good n c (runs n im b (suc k) c .core)
+runs-case : (n : Sizes) (im : Image) (b k : ℕ) (c : Core) (t : Bool) → ltb (c .pc) (suc k) ≡ t → short n (used c) ≡ none
+    → Good n c (runs n im b (suc k) c .core)
 unfolding ran idle
 runs-case n im b k c false q h =
     let d = entered (suc k) c in
     let f : short n (used d) ≡ none = rw entered-used h in
-    rw (runs-past n im b k c q) (stored-good n c d 0 (c .pc) (entered-good n (suc k) c d (kept (d .land), f)))
+    rw (runs-past n im b k c q) (stored-good n c d 0 (c .pc) (entered-good n (suc k) c d (kept (d .memory), f)))
 runs-case n im b k c true q h =
     let d = entered (suc k) c in
     let f : short n (used d) ≡ none = rw entered-used h in
@@ -50,7 +53,7 @@ runs-case n im b k c true q h =
 
 pub runs-good : (n : Sizes) (im : Image) (b k : ℕ) (c : Core) → short n (used c) ≡ none → Good n c (runs n im b k c .core)
 unfolding runs
-runs-good n im b zero c h = (kept (c .land), h)
+runs-good n im b zero c h = (kept (c .memory), h)
 runs-good n im b (suc k) c h = runs-case n im b k c (ltb (c .pc) (suc k)) refl h
 
 -- what the larger does with a run that did not run out on the smaller, and with one that did
@@ -65,14 +68,17 @@ module _ (S L : Sizes) (le : S ⊑ L) where
   abbrev pub Upon : Image → ℕ → Core → Acted → Acted → Type 0
   Upon im k c a b = (ranOut (a .answer) ≡ false → b ≡ a) × (ranOut (a .answer) ≡ true → CutOn im k c (a .core) (a .answer))
 
-  upon-case : (im : Image) (b m k : ℕ) (c : Core) (t : Bool) → ltb (c .pc) (suc k) ≡ t → Upon im (suc k) c (runs S im b (suc k) c) (runs L im (b + m) (suc k) c)
+  upon-case : (im : Image) (b m k : ℕ) (c : Core) (t : Bool) → ltb (c .pc) (suc k) ≡ t
+      → Upon im (suc k) c (runs S im b (suc k) c) (runs L im (b + m) (suc k) c)
   unfolding ranOut spent ran idle cutOff stored
   upon-case im b m k c false q = rw (runs-past S im b k c q, runs-past L im (b + m) k c q) (λ h. refl, λ h. absurd (true≢false (sym h)))
   upon-case im b m k c true q =
       let d = entered (suc k) c in
       let r = up S L le im b m d in
-      rw (runs-go S im b k c q, runs-go L im (b + m) k c q)
-      (λ h. rw (r .0 h) refl, λ h. rw (runs-go L im (go S im b d .steps) k c q, r .1 h) (refl, sym (stored-back (go S im b d .ending) (c .pc) (go S im b d .core))))
+      rw (runs-go S im b k c q, runs-go L im (b + m) k c q) (
+        λ h. rw (r .0 h) refl,
+        λ h. rw (runs-go L im (go S im b d .steps) k c q, r .1 h) (refl, sym (stored-back (go S im b d .ending) (c .pc) (go S im b d .core))),
+      )
 
   pub runs-up : (im : Image) (b m k : ℕ) (c : Core) → Upon im k c (runs S im b k c) (runs L im (b + m) k c)
   unfolding runs ranOut spent

@@ -17,11 +17,13 @@ pub go-next : (n : Sizes) (im : Image) (b : ℕ) (c d : Core) → step n im c �
 unfolding go
 go-next n im b c d e = rw (e, go) refl
 
-pub go-halted : (n : Sizes) (im : Image) (b : ℕ) (c : Core) → step n im c ≡ halted → go n im (suc b) c ≡ record { ending = 0; core = c; steps = 1; trail = [] }
+pub go-halted : (n : Sizes) (im : Image) (b : ℕ) (c : Core) → step n im c ≡ halted
+    → go n im (suc b) c ≡ record { ending = 0; core = c; steps = 1; trail = [] }
 unfolding go
 go-halted n im b c e = rw (e, go) refl
 
-pub go-stop : (n : Sizes) (im : Image) (b : ℕ) (c : Core) (k : ℕ) → step n im c ≡ stop k → go n im (suc b) c ≡ record { ending = k; core = c; steps = 0; trail = [] }
+pub go-stop : (n : Sizes) (im : Image) (b : ℕ) (c : Core) (k : ℕ) → step n im c ≡ stop k
+    → go n im (suc b) c ≡ record { ending = k; core = c; steps = 0; trail = [] }
 unfolding go
 go-stop n im b c k e = rw (e, go) refl
 
@@ -62,7 +64,10 @@ module _ (S L : Sizes) (le : S ⊑ L) where
     up-suc : (b m : ℕ) (c : Core) (x : Step) → step S im c ≡ x → step L im c ≡ x → ((d : Core) → Upto b m d) → Upto (suc b) m c
     unfolding after cutOff spent go
     up-suc b m c (next d) p q ih =
-        rw (go-next S im b c d p) (λ h. rw (suc-add, go-next L im (b + m) c d q, ih d .0 h) refl, λ h. rw (go-next L im (go S im b d .steps) c d q, ih d .1 h) refl)
+        rw (go-next S im b c d p) (
+          λ h. rw (suc-add, go-next L im (b + m) c d q, ih d .0 h) refl,
+          λ h. rw (go-next L im (go S im b d .steps) c d q, ih d .1 h) refl,
+        )
     up-suc b m c halted p q ih = rw (go-halted S im b c p) (λ h. rw (suc-add, go-halted L im (b + m) c q) refl, λ h. cc)
     up-suc b m c (stop k) p q ih = rw (go-stop S im b c k p) (λ h. rw (suc-add, go-stop L im (b + m) c k q) refl, λ h. refl)
 

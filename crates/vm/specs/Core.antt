@@ -1,8 +1,9 @@
 -- What a machine holds in use, without the lent buffers, and its limits. Definitions only.
 --
--- A core has nothing of the lent heap past the pushed bytes and nothing of the lent slots past the active ones. So two mistakes that would
--- break demand 3 cannot be written on it: a page that shows what was lent because it is pushed without being zeroed, and probing that goes
--- over the slots lent. `limited` (`Run`) and `granted` (`Machine`) are where a core meets what is lent.
+-- A core has nothing of the lent heap past the pushed bytes and nothing of the lent slots past the active ones. So no instruction and no
+-- allocation, which are defined on it, can show what is lent past them. A core meets what is lent where `Machine` takes it out (`memoryOf`,
+-- `view`) and lays it back (`withPages` ..), and where `limited` (`Run`) and `granted` (`Machine`) hold it to the sizes: mistakes there that
+-- would break demand 3 are must-fail edits.
 use Prim.Native.Nat.{ℕ, _≤_}
 use mathlib.Core.Bool.{Bool, true, false, _||_}
 use mathlib.Core.Option.{Option, none, some}
@@ -12,17 +13,17 @@ use lib.Dec.{leb, eqb}
 use Rattle.gc.specs.Pages.{Pages}
 
 -- what programs and host calls allocate in: the pushed pages, the active slots, the count of names
-pub record Land : Type 0 where
+pub record Memory : Type 0 where
   pub pages : Pages
   pub slots : List ℕ
   pub names : ℕ
 
--- the registers, the pc, the frames in use ('the first depth frames are in use'), and the land
+-- the registers, the pc, the frames in use ('the first depth frames are in use'), and the memory
 pub record Core : Type 0 where
   pub regs : List ℕ
   pub pc : ℕ
   pub frames : List ℕ
-  pub land : Land
+  pub memory : Memory
 
 -- how many frames, heap bytes and slots are lent, or in use
 pub record Sizes : Type 0 where
@@ -31,7 +32,7 @@ pub record Sizes : Type 0 where
   pub slots : ℕ
 
 unfoldable pub used : Core → Sizes
-used c = record { frames = length (c .frames); heap = length (c .land .pages .bytes); slots = length (c .land .slots) }
+used c = record { frames = length (c .frames); heap = length (c .memory .pages .bytes); slots = length (c .memory .slots) }
 
 -- the number with which a use that does not fit what is lent ends: 3, 'depth equals frames'; 18, 'table must grow past the slots
 -- lent'; 2, 'allocation refused'. Interning gives 18 before 2
@@ -58,18 +59,18 @@ pub record _⊑_ (a b : Sizes) : Type 0 where
 -- ---- a core with one part changed
 
 unfoldable pub setReg : ℕ → ℕ → Core → Core
-setReg r v c = record { regs = set (c .regs) r v; pc = c .pc; frames = c .frames; land = c .land }
+setReg r v c = record { regs = set (c .regs) r v; pc = c .pc; frames = c .frames; memory = c .memory }
 
 unfoldable pub setPc : ℕ → Core → Core
-setPc p c = record { regs = c .regs; pc = p; frames = c .frames; land = c .land }
+setPc p c = record { regs = c .regs; pc = p; frames = c .frames; memory = c .memory }
 
 unfoldable pub setFrames : List ℕ → Core → Core
-setFrames f c = record { regs = c .regs; pc = c .pc; frames = f; land = c .land }
+setFrames f c = record { regs = c .regs; pc = c .pc; frames = f; memory = c .memory }
 
-unfoldable pub setLand : Land → Core → Core
-setLand l c = record { regs = c .regs; pc = c .pc; frames = c .frames; land = l }
+unfoldable pub setMemory : Memory → Core → Core
+setMemory l c = record { regs = c .regs; pc = c .pc; frames = c .frames; memory = l }
 
-unfoldable pub setPages : Pages → Land → Land
+unfoldable pub setPages : Pages → Memory → Memory
 setPages p l = record { pages = p; slots = l .slots; names = l .names }
 
 unfoldable pub setBytes : List ℕ → Pages → Pages

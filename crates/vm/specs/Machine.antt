@@ -7,14 +7,14 @@ use lib.ListN.{length, take, drop, set, replicate}
 use lib.Dec.{leb, ltb, eqb}
 use Rattle.memory.specs.Lists.{over}
 use Rattle.string.specs.Payload.{smallName}
-use Rattle.string.specs.Grow.{spared}
+use Rattle.string.specs.Grow.{spareAfter}
 use Rattle.string.specs.Sound as Table
 use Rattle.gc.specs.Pages.{Pages}
 use Rattle.gc.specs.Lent.{pageSize, pagesOf, numbersOf}
 use Rattle.gc.specs.Lent as Heap
 use Rattle.op.specs.Layout.{isAlignment}
 use Rattle.vm.specs.declared.State.{State}
-use Rattle.vm.specs.Core.{Core, Land, Sizes, used, short, spent, setLand}
+use Rattle.vm.specs.Core.{Core, Memory, Sizes, used, short, spent, setMemory}
 use Rattle.program.specs.Image.{Image, Test, test, below, imageTests, failing}
 use Rattle.vm.specs.Run.{Ran, go, root, entered, stored}
 use Rattle.vm.specs.Names.{Given, allocates, boxed, optional, interned}
@@ -35,11 +35,15 @@ unfoldable pub sizes : Lent → Sizes
 sizes l = record { frames = length (l .frames); heap = length (l .heap); slots = length (l .slots) }
 
 -- the core of a machine: of each buffer the part in use
-unfoldable pub landOf : Machine → Land
-landOf m = record { pages = pagesOf (m .state .gc) (m .lent .heap); slots = take (m .state .strings .active) (m .lent .slots); names = m .state .strings .len }
+unfoldable pub memoryOf : Machine → Memory
+memoryOf m = record {
+  pages = pagesOf (m .state .gc) (m .lent .heap);
+  slots = take (m .state .strings .active) (m .lent .slots);
+  names = m .state .strings .len;
+}
 
 unfoldable pub view : Machine → Core
-view m = record { regs = m .state .regs; pc = m .state .pc; frames = take (m .state .depth) (m .lent .frames); land = landOf m }
+view m = record { regs = m .state .regs; pc = m .state .pc; frames = take (m .state .depth) (m .lent .frames); memory = memoryOf m }
 
 -- ---- a core laid back over state and buffers, part by part; what is past the parts in use stays
 
@@ -55,8 +59,19 @@ unfoldable pub withNames : List ℕ → ℕ → Machine → Machine
 withNames slots names m =
     let active = m .state .strings .active in
     record {
-      state = record { regs = m .state .regs; pc = m .state .pc; depth = m .state .depth; gc = m .state .gc; strings = record { active = length slots; len = names } };
-      lent = record { frames = m .lent .frames; heap = m .lent .heap; slots = over slots (m .lent .slots); spare = spared (ltb active (length slots)) (take active (m .lent .slots)) (m .lent .spare) };
+      state = record {
+        regs = m .state .regs;
+        pc = m .state .pc;
+        depth = m .state .depth;
+        gc = m .state .gc;
+        strings = record { active = length slots; len = names };
+      };
+      lent = record {
+        frames = m .lent .frames;
+        heap = m .lent .heap;
+        slots = over slots (m .lent .slots);
+        spare = spareAfter (ltb active (length slots)) (take active (m .lent .slots)) (m .lent .spare);
+      };
     }
 
 -- the lists of a trail written over the frames in turn: a frame above the depth keeps what a `Call` left there
@@ -72,19 +87,22 @@ withFrames trail frames m =
     }
 
 unfoldable pub withRegs : List ℕ → ℕ → Machine → Machine
-withRegs regs pc m = record { state = record { regs = regs; pc = pc; depth = m .state .depth; gc = m .state .gc; strings = m .state .strings }; lent = m .lent }
+withRegs regs pc m = record {
+  state = record { regs = regs; pc = pc; depth = m .state .depth; gc = m .state .gc; strings = m .state .strings };
+  lent = m .lent;
+}
 
 -- all of these but the names, which a run leaves alone
 unfoldable pub laid : List (List ℕ) → Core → Machine → Machine
-laid trail c m = withRegs (c .regs) (c .pc) (withFrames trail (c .frames) (withPages (c .land .pages) m))
+laid trail c m = withRegs (c .regs) (c .pc) (withFrames trail (c .frames) (withPages (c .memory .pages) m))
 
 -- ---- the calls
 
 -- calls on the state and frame 0 alone
-pub data Light : Type 0 where
-  reset : Light
-  putPc : ℕ → Light
-  putReg : ℕ → ℕ → Light
+pub data Setting : Type 0 where
+  reset : Setting
+  putPc : ℕ → Setting
+  putReg : ℕ → ℕ → Setting
 
 -- calls that allocate
 pub data Host : Type 0 where
@@ -95,7 +113,7 @@ pub data Host : Type 0 where
 
 pub data Call : Type 0 where
   run : Image → ℕ → Call
-  light : Light → Call
+  setting : Setting → Call
   host : Host → Call
 
 -- 'Answers are all numbers, pcs, steps and values returned'
@@ -125,7 +143,11 @@ pub record Acted : Type 0 where
 
 -- a run from the pc p, on code of n words: frame 0 is written first
 unfoldable pub ran : ℕ → ℕ → Ran → Acted
-ran n p r = record { answer = ended (r .ending) (r .core .pc) (r .steps); core = stored (r .ending) p (r .core); trail = (root n ∷ []) ∷ r .trail }
+ran n p r = record {
+  answer = ended (r .ending) (r .core .pc) (r .steps);
+  core = stored (r .ending) p (r .core);
+  trail = (root n ∷ []) ∷ r .trail;
+}
 
 unfoldable pub idle : Core → Ran
 idle c = record { ending = 0; core = c; steps = 0; trail = [] }
@@ -134,9 +156,12 @@ idle c = record { ending = 0; core = c; steps = 0; trail = [] }
 unfoldable pub runs : Sizes → Image → ℕ → ℕ → Core → Acted
 runs lent im b zero c = record { answer = ended 0 (c .pc) 0; core = c; trail = [] }
 runs lent im b (suc k) c =
-    elim (ltb (c .pc) (suc k)) [ true ↦ ran (suc k) (c .pc) (go lent im b (entered (suc k) c)) | false ↦ ran (suc k) (c .pc) (idle (entered (suc k) c)) ]
+    elim (ltb (c .pc) (suc k)) [
+      | true ↦ ran (suc k) (c .pc) (go lent im b (entered (suc k) c))
+      | false ↦ ran (suc k) (c .pc) (idle (entered (suc k) c))
+    ]
 
-unfoldable pub hosted : Host → Land → Given
+unfoldable pub hosted : Host → Memory → Given
 hosted (allocate kind align n) l = allocates kind n l
 hosted (option o) l = optional o l
 hosted (intern s) l = interned s l
@@ -146,16 +171,16 @@ hosted (internSmall n w) l = interned (smallName n w) l
 abbrev pub unset : ℕ
 unset = 2 ^ 64 - 1
 
-unfoldable pub lightly : Light → Machine → Machine
-lightly reset m = withRegs (m .state .regs) unset (withFrames [] (unset ∷ []) m)
-lightly (putPc p) m = withRegs (m .state .regs) p m
-lightly (putReg r v) m = withRegs (set (m .state .regs) r v) (m .state .pc) m
+unfoldable pub withSetting : Setting → Machine → Machine
+withSetting reset m = withRegs (m .state .regs) unset (withFrames [] (unset ∷ []) m)
+withSetting (putPc p) m = withRegs (m .state .regs) p m
+withSetting (putReg r v) m = withRegs (set (m .state .regs) r v) (m .state .pc) m
 
 -- a run leaves registers, pc, frames and pages; a host call the pages, and an interning the names too
 unfoldable pub runLeaves : Machine → Acted → Machine
 runLeaves m a = laid (a .trail) (a .core) m
 
-unfoldable pub hostLeaves : Host → Machine → Land → Machine
+unfoldable pub hostLeaves : Host → Machine → Memory → Machine
 hostLeaves (allocate kind align n) m l = withPages (l .pages) m
 hostLeaves (option o) m l = withPages (l .pages) m
 hostLeaves (intern s) m l = withNames (l .slots) (l .names) (withPages (l .pages) m)
@@ -163,21 +188,22 @@ hostLeaves (internSmall n w) m l = withNames (l .slots) (l .names) (withPages (l
 
 -- what is given, if it fits what is lent; else its number, and everything as it was
 unfoldable pub granted : Option ℕ → Host → Machine → Given → Called
-granted none k m g = record { answer = value (g .value); machine = hostLeaves k m (g .land) }
+granted none k m g = record { answer = value (g .value); machine = hostLeaves k m (g .memory) }
 granted (some e) k m g = record { answer = refused e; machine = m }
 
 unfoldable pub hostCall : Host → Machine → Given → Called
-hostCall k m g = granted (short (sizes (m .lent)) (used (setLand (g .land) (view m)))) k m g
+hostCall k m g = granted (short (sizes (m .lent)) (used (setMemory (g .memory) (view m)))) k m g
 
 unfoldable pub runCall : Image → ℕ → Machine → Called
 runCall im b m =
     let a = runs (sizes (m .lent)) im b (length (im .code)) (view m) in
     record { answer = a .answer; machine = runLeaves m a }
 
+-- a call that no test refuses
 unfoldable pub act : Call → Machine → Called
 act (run im b) m = runCall im b m
-act (light k) m = record { answer = done; machine = lightly k m }
-act (host k) m = hostCall k m (hosted k (landOf m))
+act (setting k) m = record { answer = done; machine = withSetting k m }
+act (host k) m = hostCall k m (hosted k (memoryOf m))
 
 -- ---- refusals, in the paper's order
 
@@ -217,26 +243,51 @@ namesBelong s l = pagesBelong s l && Table.soundOf (s .gc .base) (s .gc .pushed)
 unfoldable pub smallOk : ℕ → ℕ → Bool
 smallOk n w = leb n 8 && ltb w (256 ^ n)
 
+-- what a call finds of state and buffers: of 10, that frames, heap and slots have their sizes; of 9, that the frames in use belong to code of so
+-- many words, that the pages belong to the heap, and with them the names to the slots
+pub record Found : Type 0 where
+  pub frames-fit : Bool
+  pub heap-fits : Bool
+  pub slots-fit : Bool
+  pub frames : ℕ → Bool
+  pub pages : Bool
+  pub names : Bool
+
+abbrev pub found : State → Lent → Found
+found s l = record {
+  frames-fit = framesOk (length (l .frames));
+  heap-fits = heapOk (s .gc .base) (length (l .heap));
+  slots-fit = slotsOk (length (l .slots)) (length (l .spare));
+  frames = λ n. framesBelong n s l;
+  pages = pagesBelong s l;
+  names = namesBelong s l;
+}
+
 -- both internings
-abbrev pub nameTests : State → Lent → List Test
-nameTests s l = test (heapOk (s .gc .base) (length (l .heap)) && slotsOk (length (l .slots)) (length (l .spare))) 10 ∷ test (namesBelong s l) 9 ∷ []
+abbrev pub nameTests : Found → List Test
+nameTests f = test (f .heap-fits && f .slots-fit) 10 ∷ test (f .names) 9 ∷ []
+
+-- 'Every host call first gives 10 for the slices it lends. Interning: 9, 17, the value if found, .. 18, 2. Allocating: 13 for kind or align, 9, 2.
+-- An option: 9, 2. Setting a register: 13. Setting pc and reset have nothing further'; a run: the loader's order, 'then 9'
+unfoldable pub testsBy : Call → Found → List Test
+testsBy (run im b) f = imageTests (f .frames-fit && f .heap-fits) im ++ (test (f .frames (length (im .code)) && f .pages) 9 ∷ [])
+testsBy (setting reset) f = test (f .frames-fit) 10 ∷ []
+testsBy (setting (putPc p)) f = []
+testsBy (setting (putReg r v)) f = test (ltb r 32) 13 ∷ []
+testsBy (host (allocate kind align n)) f = test (f .heap-fits) 10 ∷ test (ltb kind 4 && isAlignment align) 13 ∷ test (f .pages) 9 ∷ []
+testsBy (host (option o)) f = test (f .heap-fits) 10 ∷ test (f .pages) 9 ∷ []
+testsBy (host (intern n)) f = nameTests f
+testsBy (host (internSmall n w)) f = nameTests f ++ (test (smallOk n w) 17 ∷ [])
 
 unfoldable pub tests : Call → State → Lent → List Test
-tests (run im b) s l =
-    imageTests (framesOk (length (l .frames)) && heapOk (s .gc .base) (length (l .heap))) im ++ (test (framesBelong (length (im .code)) s l && pagesBelong s l) 9 ∷ [])
-tests (light reset) s l = test (framesOk (length (l .frames))) 10 ∷ []
-tests (light (putPc p)) s l = []
-tests (light (putReg r v)) s l = test (ltb r 32) 13 ∷ []
-tests (host (allocate kind align n)) s l = test (heapOk (s .gc .base) (length (l .heap))) 10 ∷ test (ltb kind 4 && isAlignment align) 13 ∷ test (pagesBelong s l) 9 ∷ []
-tests (host (option o)) s l = test (heapOk (s .gc .base) (length (l .heap))) 10 ∷ test (pagesBelong s l) 9 ∷ []
-tests (host (intern n)) s l = nameTests s l
-tests (host (internSmall n w)) s l = nameTests s l ++ (test (smallOk n w) 17 ∷ [])
+tests k s l = testsBy k (found s l)
 
 -- a refused call leaves state and buffers unchanged
 unfoldable pub tried : Option ℕ → Call → Machine → Called
 tried none k m = act k m
 tried (some e) k m = record { answer = refused e; machine = m }
 
+-- one call: 'determines the answer and every lent slice after the call, for refused calls as well'
 unfoldable pub perform : Call → Machine → Called
 perform k m = tried (failing (tests k (m .state) (m .lent))) k m
 
@@ -246,28 +297,39 @@ pub data Started : Type 0 where
   declined : ℕ → Started
   begun : Machine → Started
 
-unfoldable pub firstPage : ℕ → Land
+unfoldable pub firstPage : ℕ → Memory
 firstPage base = record { pages = record { base = base; bytes = replicate pageSize 0; last = 0; len = 0 }; slots = []; names = 0 }
 
 -- '`Vm::new_in` boxes [0, 0]'
-unfoldable pub firstLand : ℕ → Land
-firstLand base = boxed 0 0 (firstPage base) .land
+unfoldable pub firstMemory : ℕ → Memory
+firstMemory base = boxed 0 0 (firstPage base) .memory
 
 -- nothing in use
 unfoldable pub blank : ℕ → Lent → Machine
 blank base l =
     record {
-      state = record { regs = replicate 32 0; pc = 0; depth = 0; gc = record { base = base; pushed = 0; page = 0; len = 0 }; strings = record { active = 0; len = 0 } };
+      state = record {
+        regs = replicate 32 0;
+        pc = 0;
+        depth = 0;
+        gc = record { base = base; pushed = 0; page = 0; len = 0 };
+        strings = record { active = 0; len = 0 };
+      };
       lent = l;
     }
 
 -- registers and pc 0, frame 0 'as `reset` does, whatever was lent', page 0 with the box of none; slots and spare as they were
 unfoldable pub begin : ℕ → Lent → Machine
-begin base l = withFrames [] (unset ∷ []) (withPages (firstLand base .pages) (blank base l))
+begin base l = withFrames [] (unset ∷ []) (withPages (firstMemory base .pages) (blank base l))
 
 unfoldable pub starts : Option ℕ → ℕ → Lent → Started
 starts none base l = begun (begin base l)
 starts (some e) base l = declined e
 
+-- what 10 says of the buffers of a start
+abbrev pub buffersOk : ℕ → Lent → Bool
+buffersOk base l = framesOk (length (l .frames)) && (heapOk base (length (l .heap)) && slotsOk (length (l .slots)) (length (l .spare)))
+
+-- the loader's refusals, 'Order: 10, 11, 16, then word by word 12, 13, 14, 15'; there is no state yet, and so no 9
 unfoldable pub start : Image → ℕ → Lent → Started
-start im base l = starts (failing (imageTests (framesOk (length (l .frames)) && (heapOk base (length (l .heap)) && slotsOk (length (l .slots)) (length (l .spare)))) im)) base l
+start im base l = starts (failing (imageTests (buffersOk base l) im)) base l

@@ -13,7 +13,7 @@ use Rattle.gc.specs.Lent.{pageSize}
 use Rattle.op.specs.Decode.{decodeOf}
 use Rattle.program.specs.declared.Effect.{Effect}
 use Rattle.program.specs.declared.Effect.the-variants as effect
-use Rattle.vm.specs.Core.{Core, Sizes, used, short, setReg, setPc, setFrames, setLand, setPages, setBytes}
+use Rattle.vm.specs.Core.{Core, Sizes, used, short, setReg, setPc, setFrames, setMemory, setPages, setBytes}
 use Rattle.program.specs.Image.{Image}
 use Rattle.program.specs.Effect.{unlisted, wordEffect}
 
@@ -45,8 +45,8 @@ unfoldable pub returned : ℕ → Core → Step
 returned zero c = stop 8
 returned (suc d) c = next (setPc ((getD (c .frames) d 0 + 1) % 2 ^ 64) (setFrames (take d (c .frames)) c))
 
-unfoldable pub took : ℕ → Core → Block → Step
-took dst c b = next (forward (setReg dst (b .address) (setLand (setPages (b .pages) (c .land)) c)))
+unfoldable pub blockTo : ℕ → Core → Block → Step
+blockTo dst c b = next (forward (setReg dst (b .address) (setMemory (setPages (b .pages) (c .memory)) c)))
 
 -- an effect on a core without limits
 unfoldable pub apply : Effect → Core → Step
@@ -55,10 +55,12 @@ apply effect.Skip c = next (forward c)
 apply (effect.Goto target) c = next (setPc target c)
 apply (effect.Call func) c = next (setPc func (setFrames (c .frames ++ (c .pc ∷ [])) c))
 apply effect.Ret c = returned (length (c .frames)) c
-apply (effect.Load dst base offset) c = provided (addressed (c .land .pages) (base + offset)) 6 (forward (setReg dst (loaded (c .land .pages) (base + offset)) c))
+apply (effect.Load dst base offset) c = provided (addressed (c .memory .pages) (base + offset)) 6
+    (forward (setReg dst (loaded (c .memory .pages) (base + offset)) c))
 apply (effect.Store base offset v) c =
-    provided (addressed (c .land .pages) (base + offset)) 6 (forward (setLand (setPages (stored8 (base + offset) v (c .land .pages)) (c .land)) c))
-apply (effect.Alloc dst kind size) c = took dst c (allocated pageSize kind size (c .land .pages))
+    provided (addressed (c .memory .pages) (base + offset)) 6
+    (forward (setMemory (setPages (stored8 (base + offset) v (c .memory .pages)) (c .memory)) c))
+apply (effect.Alloc dst kind size) c = blockTo dst c (allocated pageSize kind size (c .memory .pages))
 apply (effect.Stop e) c = stop e
 apply effect.Halt c = halted
 

@@ -14,7 +14,7 @@ use Rattle.vm.specs.declared.State.{State}
 use Rattle.vm.specs.declared.Reply.{Reply}
 use Rattle.vm.specs.declared.Called.{Called}
 use Rattle.vm.specs.declared.Opt.{Opt}
-use Rattle.vm.specs.Core.{Land}
+use Rattle.vm.specs.Core.{Memory}
 use Rattle.vm.specs.Names.{Given}
 use Rattle.vm.specs.Machine.{Lent, Machine, Answer, ended, value, done, refused, Started, declined, begun, blank}
 use Rattle.vm.specs.Machine as Machine
@@ -48,11 +48,11 @@ told r l = record { answer = saidOf (r .reply); machine = machineOf (r .state) l
 
 -- what was given, as a block of the pages that hold it
 abbrev pub blockOf : Given → Block
-blockOf g = record { address = g .value; pages = g .land .pages }
+blockOf g = record { address = g .value; pages = g .memory .pages }
 
 -- the pages of a lent heap, as all that is looked at
-abbrev pub landIn : Gc → List ℕ → Land
-landIn g heap = record { pages = pagesOf g heap; slots = []; names = 0 }
+abbrev pub memoryIn : Gc → List ℕ → Memory
+memoryIn g heap = record { pages = pagesOf g heap; slots = []; names = 0 }
 
 abbrev pub optionOf : Opt → Option ℕ
 optionOf Opt.None = none

@@ -2,6 +2,7 @@
 ghost use mathlib.Core.Path.{_≡_};
 ghost use Rattle.vm.specs.Machine.{Lent, framesOk, heapOk, slotsOk, framesBelong};
 ghost use Rattle.vm.specs.declared.State.{State};
+use gc::HEAP_END;
 use gc::PAGE_SIZE;
 use program::loader;
 
@@ -18,7 +19,7 @@ pub fn heap_ok(base: u64, heap: usize) -> bool
     if 256 * PAGE_SIZE < heap {
         return false;
     }
-    let top = 281474976710656 - heap as u64;
+    let top = HEAP_END - heap as u64;
     let size = PAGE_SIZE as u64;
     ((PAGE_SIZE <= heap) & (heap % PAGE_SIZE == 0))
         & ((size <= base) & ((base % size == 0) & (base <= top)))

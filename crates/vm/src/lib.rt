@@ -2,10 +2,10 @@
 ghost use mathlib.Core.Path.{_≡_};
 ghost use mathlib.Core.List.{List};
 ghost use Prim.Native.Nat.{ℕ};
-ghost use Rattle.vm.specs.Machine.{Lent, reset, putPc, putReg, light, allocate, option, host, done, perform};
-ghost use Rattle.gc.specs.Lent.{Sound, outcome, grantedIn};
+ghost use Rattle.vm.specs.Machine.{Lent, reset, putPc, putReg, setting, allocate, option, host, done, perform};
+ghost use Rattle.gc.specs.Lent.{InHeap, outcome, grantedIn};
 ghost use Rattle.vm.specs.Names.{boxed};
-ghost use Rattle.vm.specs.Told.{lentOf, machineOf, told, refusedBy, allocatedIn, blockOf, landIn, optionOf};
+ghost use Rattle.vm.specs.Told.{lentOf, machineOf, told, refusedBy, allocatedIn, blockOf, memoryIn, optionOf};
 
 pub mod lent;
 pub mod start;
@@ -46,13 +46,14 @@ pub struct Called {
     pub state: State,
 }
 
-// The pc of a machine that has no code to run, and what frame 0 then holds.
-const UNSET: u64 = 18446744073709551615;
+// What `reset` gives pc and frame 0, and a start frame 0.
+const UNSET: u64 = u64::MAX;
 
 // An Option of two words, a tag and a value.
 fn boxed(gc: Gc, tag: u64, value: u64, heap: &mut [u8]) -> Alloc
-    requires { ⌜ Sound gc (now heap) ⌝ }
-    ensures { λ r. ⌜ outcome r (now (heap .exit)) ≡ grantedIn (blockOf (boxed tag value (landIn gc (now (heap .entry))))) (now (heap .entry)) ⌝ }
+    requires { ⌜ InHeap gc (now heap) ⌝ }
+    ensures { λ r. ⌜ outcome r (now (heap .exit))
+        ≡ grantedIn (blockOf (boxed tag value (memoryIn gc (now (heap .entry))))) (now (heap .entry)) ⌝ }
 {
     let base = gc.base;
     let block = gc.alloc(Metadata::new(AllocType::Option, false, 16), heap);
@@ -93,7 +94,7 @@ impl State {
     }
 
     pub fn set_pc(self, pc: usize) -> State
-        ensures { λ r. ⌜ ((l : Lent) → record { answer = done; machine = machineOf r l } ≡ perform (light (putPc pc)) (machineOf self l)) ⌝ }
+        ensures { λ r. ⌜ ((l : Lent) → record { answer = done; machine = machineOf r l } ≡ perform (setting (putPc pc)) (machineOf self l)) ⌝ }
     {
         let mut state = self;
         state.pc = pc;
@@ -101,7 +102,7 @@ impl State {
     }
 
     pub fn set_register(self, register: usize, value: u64) -> Called
-        ensures { λ r. ⌜ ((l : Lent) → told r l ≡ perform (light (putReg register value)) (machineOf self l)) ⌝ }
+        ensures { λ r. ⌜ ((l : Lent) → told r l ≡ perform (setting (putReg register value)) (machineOf self l)) ⌝ }
     {
         if REGISTER_COUNT <= register {
             return self.refused(Refusal::Operand);
@@ -118,7 +119,9 @@ impl State {
 
     // pc and frame 0 unset, and depth 1; registers, heap and names stay.
     pub fn reset(self, frames: &mut [u64]) -> Called
-        ensures { λ r. ⌜ ((heap slots spare : List ℕ) → told r (lentOf (now (frames .exit)) heap slots spare) ≡ perform (light reset) (machineOf self (lentOf (now (frames .entry)) heap slots spare))) ⌝ }
+        ensures { λ r. ⌜ ((heap slots spare : List ℕ)
+            → told r (lentOf (now (frames .exit)) heap slots spare)
+            ≡ perform (setting reset) (machineOf self (lentOf (now (frames .entry)) heap slots spare))) ⌝ }
     {
         if !lent::frames_ok(frames.len()) {
             return self.refused(Refusal::Size);
@@ -135,7 +138,9 @@ impl State {
 
     // A block of `size` bytes and a kind; its alignment is tested and changes nothing.
     pub fn allocate(self, kind: u64, align: usize, size: u64, heap: &mut [u8]) -> Called
-        ensures { λ r. ⌜ ((frames slots spare : List ℕ) → told r (lentOf frames (now (heap .exit)) slots spare) ≡ perform (host (allocate kind align size)) (machineOf self (lentOf frames (now (heap .entry)) slots spare))) ⌝ }
+        ensures { λ r. ⌜ ((frames slots spare : List ℕ)
+            → told r (lentOf frames (now (heap .exit)) slots spare)
+            ≡ perform (host (allocate kind align size)) (machineOf self (lentOf frames (now (heap .entry)) slots spare))) ⌝ }
     {
         let gc = self.gc;
         if !lent::heap_ok(gc.base, heap.len()) {
@@ -152,7 +157,9 @@ impl State {
     }
 
     pub fn new_option(self, value: Opt, heap: &mut [u8]) -> Called
-        ensures { λ r. ⌜ ((frames slots spare : List ℕ) → told r (lentOf frames (now (heap .exit)) slots spare) ≡ perform (host (option (optionOf value))) (machineOf self (lentOf frames (now (heap .entry)) slots spare))) ⌝ }
+        ensures { λ r. ⌜ ((frames slots spare : List ℕ)
+            → told r (lentOf frames (now (heap .exit)) slots spare)
+            ≡ perform (host (option (optionOf value))) (machineOf self (lentOf frames (now (heap .entry)) slots spare))) ⌝ }
     {
         let gc = self.gc;
         if !lent::heap_ok(gc.base, heap.len()) {

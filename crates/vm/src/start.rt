@@ -3,6 +3,7 @@ ghost use mathlib.Core.Path.{_≡_};
 ghost use Prim.Native.Nat.{ℕ, _+_, _^_, _≤_};
 ghost use mathlib.Core.List.{List};
 ghost use lib.ListN.{length};
+ghost use Rattle.gc.specs.Lent.{pageSize};
 ghost use Rattle.program.specs.Image.{tablesOf, imageOf};
 ghost use Rattle.vm.specs.Machine.{Lent, blank, begin, start};
 ghost use Rattle.vm.specs.Told.{lentOf, machineOf, told, startedOn};
@@ -42,8 +43,10 @@ fn blank(base: u64) -> State
 
 // Registers and pc 0, frame 0 as `reset` leaves it, page 0 with the box of none.
 fn begin(base: u64, frames: &mut [u64], heap: &mut [u8]) -> State
-    requires { ⌜ (1 ≤ length (now frames)) × ((base + length (now heap) ≤ 2 ^ 48) × (4096 ≤ length (now heap))) ⌝ }
-    ensures { λ r. ⌜ ((slots spare : List ℕ) → machineOf r (lentOf (now (frames .exit)) (now (heap .exit)) slots spare) ≡ begin base (lentOf (now (frames .entry)) (now (heap .entry)) slots spare)) ⌝ }
+    requires { ⌜ (1 ≤ length (now frames)) × ((base + length (now heap) ≤ 2 ^ 48) × (pageSize ≤ length (now heap))) ⌝ }
+    ensures { λ r. ⌜ ((slots spare : List ℕ)
+        → machineOf r (lentOf (now (frames .exit)) (now (heap .exit)) slots spare)
+        ≡ begin base (lentOf (now (frames .entry)) (now (heap .entry)) slots spare)) ⌝ }
 {
     let mut state = blank(base);
     let bare = Gc {
@@ -78,7 +81,12 @@ pub fn start(
     slots: &[u64],
     spare: &[u64],
 ) -> Called
-    ensures { λ r. ⌜ told r (lentOf (now (frames .exit)) (now (heap .exit)) (now (slots .entry)) (now (spare .entry))) ≡ startedOn (start (imageOf (now (code .entry)) (now (globals .entry)) (tablesOf (now («switch_firsts» .entry)) (now («switch_ends» .entry)) (now («switch_entries» .entry))) (tablesOf (now («lookup_firsts» .entry)) (now («lookup_ends» .entry)) (now («lookup_entries» .entry))) (now (defaults .entry))) base (lentOf (now (frames .entry)) (now (heap .entry)) (now (slots .entry)) (now (spare .entry)))) base (lentOf (now (frames .entry)) (now (heap .entry)) (now (slots .entry)) (now (spare .entry))) ⌝ }
+    ensures { λ r. ⌜ told r (lentOf (now (frames .exit)) (now (heap .exit)) (now (slots .entry)) (now (spare .entry)))
+        ≡ startedOn (start (imageOf (now (code .entry)) (now (globals .entry))
+        (tablesOf (now («switch_firsts» .entry)) (now («switch_ends» .entry)) (now («switch_entries» .entry)))
+        (tablesOf (now («lookup_firsts» .entry)) (now («lookup_ends» .entry)) (now («lookup_entries» .entry))) (now (defaults .entry)))
+        base (lentOf (now (frames .entry)) (now (heap .entry)) (now (slots .entry)) (now (spare .entry)))) base
+        (lentOf (now (frames .entry)) (now (heap .entry)) (now (slots .entry)) (now (spare .entry))) ⌝ }
 {
     let sizes = lent::frames_ok(frames.len())
         & (lent::heap_ok(base, heap.len()) & lent::slots_ok(slots.len(), spare.len()));

@@ -35,4 +35,5 @@ returns-2 c =
 pub below-spec : {M : Type 1} → statement M
 below-spec =
     tie.close
-    (tie.spec Inv-loop μ-loop (λ c. refl) (λ c. search needs) (λ c. search needs) returns (λ c. search needs) (λ c. search needs) loop-again returns-2)
+    (tie.spec Inv-loop μ-loop (λ c. refl) (λ c. search needs) (λ c. search needs) returns (λ c. search needs) (λ c. search needs) loop-again
+    returns-2)

@@ -18,7 +18,8 @@ returns-2 c =
     let ends-in-halt = c .before in
     let if1 = ends-in-halt .before in
     let sizes-ok = if1 .before in
-    refused-11 _ _ (rw (← sizes-ok .sizes-ok .ensures) (not-false _ (if1 .if1 .left))) (sym (ends-in-halt .ends-in-halt .ensures) ∙ not-true _ (c .if2 .taken))
+    refused-11 _ _ (rw (← sizes-ok .sizes-ok .ensures) (not-false _ (if1 .if1 .left)))
+    (sym (ends-in-halt .ends-in-halt .ensures) ∙ not-true _ (c .if2 .taken))
 
 returns-3 : tie.Need-returns-3
 returns-3 c =
@@ -27,7 +28,8 @@ returns-3 c =
     let ends-in-halt = if2 .before in
     let if1 = ends-in-halt .before in
     let sizes-ok = if1 .before in
-    refused-16 _ _ (rw (← sizes-ok .sizes-ok .ensures) (not-false _ (if1 .if1 .left))) (sym (ends-in-halt .ends-in-halt .ensures) ∙ not-false _ (if2 .if2 .left)) (sym (below .below .ensures) ∙ not-true _ (c .if3 .taken))
+    refused-16 _ _ (rw (← sizes-ok .sizes-ok .ensures) (not-false _ (if1 .if1 .left)))
+    (sym (ends-in-halt .ends-in-halt .ensures) ∙ not-false _ (if2 .if2 .left)) (sym (below .below .ensures) ∙ not-true _ (c .if3 .taken))
 
 returns-4 : tie.Need-returns-4
 unfolding counts verdict
@@ -38,7 +40,8 @@ returns-4 c =
     let ends-in-halt = if2 .before in
     let if1 = ends-in-halt .before in
     let sizes-ok = if1 .before in
-    c .words .ensures ∙ word-by-word _ _ (rw (← sizes-ok .sizes-ok .ensures) (not-false _ (if1 .if1 .left))) (sym (ends-in-halt .ends-in-halt .ensures) ∙ not-false _ (if2 .if2 .left)) (sym (below .below .ensures) ∙ not-false _ (if3 .if3 .left))
+    c .words .ensures ∙ word-by-word _ _ (rw (← sizes-ok .sizes-ok .ensures) (not-false _ (if1 .if1 .left)))
+    (sym (ends-in-halt .ends-in-halt .ensures) ∙ not-false _ (if2 .if2 .left)) (sym (below .below .ensures) ∙ not-false _ (if3 .if3 .left))
 
 pub check-spec : {M : Type 1} → statement M
 check-spec =

@@ -20,7 +20,8 @@ returns c =
     let check = c .before .before in
     let loop-test = check .before .before in
     let loop = loop-test .before in
-    c .enum-told2 .given .1 ∙ word-fails _ _ _ (loop .loop .inv) _ (loop-test .loop-test .taken) (sym (check .check .ensures) ∙ c .enum-told2 .given .1)
+    c .enum-told2 .given .1 ∙ word-fails _ _ _ (loop .loop .inv) _ (loop-test .loop-test .taken)
+    (sym (check .check .ensures) ∙ c .enum-told2 .given .1)
 
 loop-again : tie.Need-loop-again Inv-loop μ-loop
 loop-again c =

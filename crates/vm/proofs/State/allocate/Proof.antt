@@ -17,7 +17,8 @@ unfolding saidOf
 returns c =
     let if1 = c .before in
     let heap-ok = if1 .before in
-    λ frames slots spare. rw (c .refused .ensures) (allocate-10 _ frames _ slots spare _ _ _ (sym (heap-ok .heap-ok .ensures) ∙ not-true _ (if1 .if1 .taken)))
+    λ frames slots spare. rw (c .refused .ensures)
+    (allocate-10 _ frames _ slots spare _ _ _ (sym (heap-ok .heap-ok .ensures) ∙ not-true _ (if1 .if1 .taken)))
 
 returns-2 : tie.Need-returns-2
 unfolding saidOf
@@ -26,7 +27,9 @@ returns-2 c =
     let is-alignment = if2 .before in
     let if1 = is-alignment .before in
     let heap-ok = if1 .before in
-    λ frames slots spare. rw (c .refused2 .ensures) (allocate-13 _ frames _ slots spare _ _ _ (sym (heap-ok .heap-ok .ensures) ∙ not-false _ (if1 .if1 .left)) (rw (← is-alignment .is-alignment .ensures) (not-true _ (if2 .if2 .taken))))
+    λ frames slots spare. rw (c .refused2 .ensures)
+    (allocate-13 _ frames _ slots spare _ _ _ (sym (heap-ok .heap-ok .ensures) ∙ not-false _ (if1 .if1 .left))
+    (rw (← is-alignment .is-alignment .ensures) (not-true _ (if2 .if2 .taken))))
 
 returns-3 : tie.Need-returns-3
 unfolding saidOf
@@ -37,7 +40,9 @@ returns-3 c =
     let is-alignment = if2 .before in
     let if1 = is-alignment .before in
     let heap-ok = if1 .before in
-    λ frames slots spare. rw (c .refused3 .ensures) (allocate-9 _ frames _ slots spare _ _ _ (sym (heap-ok .heap-ok .ensures) ∙ not-false _ (if1 .if1 .left)) (rw (← is-alignment .is-alignment .ensures) (not-false _ (if2 .if2 .left))) (sym (sound .sound .ensures) ∙ not-true _ (if3 .if3 .taken)))
+    λ frames slots spare. rw (c .refused3 .ensures)
+    (allocate-9 _ frames _ slots spare _ _ _ (sym (heap-ok .heap-ok .ensures) ∙ not-false _ (if1 .if1 .left))
+    (rw (← is-alignment .is-alignment .ensures) (not-false _ (if2 .if2 .left))) (sym (sound .sound .ensures) ∙ not-true _ (if3 .if3 .taken)))
 
 from-number-requires : tie.Need-from-number-requires
 from-number-requires c κs =
@@ -51,7 +56,8 @@ alloc-requires c κs =
     let sound = if3 .before in
     let if1 = sound .before .before .before in
     let heap-ok = if1 .before in
-    Soundness.sound _ _ (heap-low _ _ (sym (heap-ok .heap-ok .ensures) ∙ not-false _ (if1 .if1 .left))) (sym (sound .sound .ensures) ∙ not-false _ (if3 .if3 .left))
+    Soundness.sound _ _ (heap-low _ _ (sym (heap-ok .heap-ok .ensures) ∙ not-false _ (if1 .if1 .left)))
+    (sym (sound .sound .ensures) ∙ not-false _ (if3 .if3 .left))
 
 returns-4 : tie.Need-returns-4
 unfolding saidOf
@@ -67,7 +73,10 @@ returns-4 c =
     let heap-ok = if1 .before in
     λ frames slots spare.
     rw (c .allocated .ensures)
-    (allocate-told _ frames _ slots spare _ _ _ (sym (heap-ok .heap-ok .ensures) ∙ not-false _ (if1 .if1 .left)) (rw (← is-alignment .is-alignment .ensures) (not-false _ (if2 .if2 .left))) (sym (sound .sound .ensures) ∙ not-false _ (if3 .if3 .left)) (outcome (alloc .alloc .result) (alloc .alloc .last .1 .1 .0)) (rw (new .new .ensures .0, new .new .ensures .1, from-number .from-number .ensures) at (alloc .alloc .ensures)))
+    (allocate-told _ frames _ slots spare _ _ _ (sym (heap-ok .heap-ok .ensures) ∙ not-false _ (if1 .if1 .left))
+    (rw (← is-alignment .is-alignment .ensures) (not-false _ (if2 .if2 .left))) (sym (sound .sound .ensures) ∙ not-false _ (if3 .if3 .left))
+    (outcome (alloc .alloc .result) (alloc .alloc .last .1 .1 .0))
+    (rw (new .new .ensures .0, new .new .ensures .1, from-number .from-number .ensures) at (alloc .alloc .ensures)))
 
 pub allocate-spec : {M : Type 1} → statement M
 allocate-spec =

@@ -16,7 +16,8 @@ unfolding saidOf
 returns c =
     let if1 = c .before in
     let heap-ok = if1 .before in
-    λ frames slots spare. rw (c .refused .ensures) (option-10 _ frames _ slots spare _ (sym (heap-ok .heap-ok .ensures) ∙ not-true _ (if1 .if1 .taken)))
+    λ frames slots spare. rw (c .refused .ensures)
+    (option-10 _ frames _ slots spare _ (sym (heap-ok .heap-ok .ensures) ∙ not-true _ (if1 .if1 .taken)))
 
 returns-2 : tie.Need-returns-2
 unfolding saidOf
@@ -25,7 +26,9 @@ returns-2 c =
     let sound = if2 .before in
     let if1 = sound .before in
     let heap-ok = if1 .before in
-    λ frames slots spare. rw (c .refused2 .ensures) (option-9 _ frames _ slots spare _ (sym (heap-ok .heap-ok .ensures) ∙ not-false _ (if1 .if1 .left)) (sym (sound .sound .ensures) ∙ not-true _ (if2 .if2 .taken)))
+    λ frames slots spare. rw (c .refused2 .ensures)
+    (option-9 _ frames _ slots spare _ (sym (heap-ok .heap-ok .ensures) ∙ not-false _ (if1 .if1 .left))
+    (sym (sound .sound .ensures) ∙ not-true _ (if2 .if2 .taken)))
 
 add-t12 : tie.Need-add-t12
 add-t12 c =
@@ -39,7 +42,8 @@ boxed-requires c κs =
     let sound = if2 .before in
     let if1 = sound .before in
     let heap-ok = if1 .before in
-    Soundness.sound _ _ (heap-low _ _ (sym (heap-ok .heap-ok .ensures) ∙ not-false _ (if1 .if1 .left))) (sym (sound .sound .ensures) ∙ not-false _ (if2 .if2 .left))
+    Soundness.sound _ _ (heap-low _ _ (sym (heap-ok .heap-ok .ensures) ∙ not-false _ (if1 .if1 .left)))
+    (sym (sound .sound .ensures) ∙ not-false _ (if2 .if2 .left))
 
 returns-3 : tie.Need-returns-3
 unfolding saidOf
@@ -49,7 +53,9 @@ returns-3 c =
     let sound = if2 .before in
     let if1 = sound .before in
     let heap-ok = if1 .before in
-    λ frames slots spare. rw (enum-told .enum-told .given .1) (option-none _ frames _ slots spare (sym (heap-ok .heap-ok .ensures) ∙ not-false _ (if1 .if1 .left)) (sym (sound .sound .ensures) ∙ not-false _ (if2 .if2 .left)))
+    λ frames slots spare. rw (enum-told .enum-told .given .1)
+    (option-none _ frames _ slots spare (sym (heap-ok .heap-ok .ensures) ∙ not-false _ (if1 .if1 .left))
+    (sym (sound .sound .ensures) ∙ not-false _ (if2 .if2 .left)))
 
 returns-4 : tie.Need-returns-4
 unfolding saidOf
@@ -60,7 +66,10 @@ returns-4 c =
     let sound = if2 .before in
     let if1 = sound .before in
     let heap-ok = if1 .before in
-    λ frames slots spare. rw (c .allocated .ensures, value .value .given .1) (option-some _ frames _ slots spare (sym (heap-ok .heap-ok .ensures) ∙ not-false _ (if1 .if1 .left)) (sym (sound .sound .ensures) ∙ not-false _ (if2 .if2 .left)) _ (outcome (boxed .boxed .result) (boxed .boxed .last .1 .1 .1 .0)) (boxed .boxed .ensures))
+    λ frames slots spare. rw (c .allocated .ensures, value .value .given .1)
+    (option-some _ frames _ slots spare (sym (heap-ok .heap-ok .ensures) ∙ not-false _ (if1 .if1 .left))
+    (sym (sound .sound .ensures) ∙ not-false _ (if2 .if2 .left)) _ (outcome (boxed .boxed .result) (boxed .boxed .last .1 .1 .1 .0))
+    (boxed .boxed .ensures))
 
 pub new-option-spec : {M : Type 1} → statement M
 new-option-spec =

@@ -13,7 +13,8 @@ unfolding saidOf
 returns c =
     let if1 = c .before in
     let frames-ok = if1 .before in
-    λ heap slots spare. rw (c .refused .ensures) (reset-refused _ _ heap slots spare (sym (frames-ok .frames-ok .ensures) ∙ not-true _ (if1 .if1 .taken)))
+    λ heap slots spare. rw (c .refused .ensures)
+    (reset-refused _ _ heap slots spare (sym (frames-ok .frames-ok .ensures) ∙ not-true _ (if1 .if1 .taken)))
 
 slice-write-frames : tie.Need-slice-write-frames
 slice-write-frames c =

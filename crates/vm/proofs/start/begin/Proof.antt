@@ -9,7 +9,8 @@ returns : tie.Need-returns
 returns c =
     let boxed = c .before .before .before .before in
     let start = boxed .before .before .before .before .before in
-    λ slots spare. absurd (never-refused _ (start .args .frames .now) _ slots spare _ _ (first-laid _ _ (start .pre .1 .1) _ _ (boxed .boxed .ensures)) (c .enum-told .given .1))
+    λ slots spare. absurd (never-refused _ (start .args .frames .now) _ slots spare _ _
+    (first-laid _ _ (start .pre .1 .1) _ _ (boxed .boxed .ensures)) (c .enum-told .given .1))
 
 returns-2 : tie.Need-returns-2
 returns-2 c =
@@ -17,7 +18,8 @@ returns-2 c =
     let boxed = gc .before .before .before .before in
     let blank = boxed .before .before in
     let start = blank .before .before .before in
-    λ slots spare. begun-with _ _ _ slots spare _ _ (first-laid _ _ (start .pre .1 .1) _ _ (boxed .boxed .ensures)) _ _ (gc .gc .given .1) _ (blank .blank .ensures)
+    λ slots spare. begun-with _ _ _ slots spare _ _ (first-laid _ _ (start .pre .1 .1) _ _ (boxed .boxed .ensures)) _ _ (gc .gc .given .1) _
+    (blank .blank .ensures)
 
 pub begin-spec : {M : Type 1} → statement M
 begin-spec =

@@ -1,10 +1,21 @@
 -- `vm::start::start` meets its contract. Assumes nothing.
 use mathlib.Core.Path.{sym, _∙_}
+use Rattle.vm.specs.Machine.{Lent}
 use Rattle.vm.specs.Told.{lentOf, saidOf}
 use Rattle.vm.proofs.Loading.{verdict-refused, verdict-fine, refused-listed, start-refused, start-begun, start-room}
 use borrow.Author.Needs.{needs}
 use Rattle.vm.proofs.start.start.Statement.{statement}
 use Rattle.vm.proofs.start.start.Tie as tie
+
+-- ---- places: the start, and what was lent
+
+abbrev start-of : tie.After-frames-ok → tie.Start
+start-of c = c .before .before .before .before .before .before .before .before .before .before .before .before .before .before
+
+abbrev lent-to : tie.Start → Lent
+lent-to start = lentOf (start .args .frames .now) (start .args .heap .now) (start .args .slots .now) (start .args .spare .now)
+
+-- ---- needs
 
 from-number-requires : tie.Need-from-number-requires
 from-number-requires c κs =
@@ -19,8 +30,13 @@ begin-requires c κs =
     let slots-ok = check .before in
     let heap-ok = slots-ok .before in
     let frames-ok = heap-ok .before in
-    let start = frames-ok .before .before .before .before .before .before .before .before .before .before .before .before .before .before in
-    start-room _ _ (lentOf (start .args .frames .now) (start .args .heap .now) (start .args .slots .now) (start .args .spare .now)) (rw (frames-ok .frames-ok .ensures, heap-ok .heap-ok .ensures, slots-ok .slots-ok .ensures) at (verdict-fine _ _ (sym (enum-told .enum-told .given .1) ∙ check .check .ensures)))
+    let start = start-of frames-ok in
+    start-room _ _ (lent-to start)
+    (rw (
+      frames-ok .frames-ok .ensures,
+      heap-ok .heap-ok .ensures,
+      slots-ok .slots-ok .ensures,
+    ) at (verdict-fine _ _ (sym (enum-told .enum-told .given .1) ∙ check .check .ensures)))
 
 returns : tie.Need-returns
 unfolding saidOf
@@ -32,8 +48,15 @@ returns c =
     let slots-ok = check .before in
     let heap-ok = slots-ok .before in
     let frames-ok = heap-ok .before in
-    let start = frames-ok .before .before .before .before .before .before .before .before .before .before .before .before .before .before in
-    rw (c .refused .ensures) (start-refused _ _ (lentOf (start .args .frames .now) (start .args .heap .now) (start .args .slots .now) (start .args .spare .now)) _ _ _ (rw (frames-ok .frames-ok .ensures, heap-ok .heap-ok .ensures, slots-ok .slots-ok .ensures) at (verdict-refused _ _ _ (sym (checked .checked .given .1) ∙ check .check .ensures))) (from-number .from-number .ensures) (blank .blank .ensures (lentOf (start .args .frames .now) (start .args .heap .now) (start .args .slots .now) (start .args .spare .now))))
+    let start = start-of frames-ok in
+    rw (c .refused .ensures) (start-refused _ _
+    (lent-to start) _ _ _
+    (rw (
+      frames-ok .frames-ok .ensures,
+      heap-ok .heap-ok .ensures,
+      slots-ok .slots-ok .ensures,
+    ) at (verdict-refused _ _ _ (sym (checked .checked .given .1) ∙ check .check .ensures))) (from-number .from-number .ensures)
+    (blank .blank .ensures (lent-to start)))
 
 returns-2 : tie.Need-returns-2
 unfolding saidOf
@@ -44,8 +67,14 @@ returns-2 c =
     let slots-ok = check .before in
     let heap-ok = slots-ok .before in
     let frames-ok = heap-ok .before in
-    let start = frames-ok .before .before .before .before .before .before .before .before .before .before .before .before .before .before in
-    start-begun _ _ (lentOf (start .args .frames .now) (start .args .heap .now) (start .args .slots .now) (start .args .spare .now)) (rw (frames-ok .frames-ok .ensures, heap-ok .heap-ok .ensures, slots-ok .slots-ok .ensures) at (verdict-fine _ _ (sym (enum-told .enum-told .given .1) ∙ check .check .ensures))) _ (begin .begin .ensures (start .args .slots .now) (start .args .spare .now))
+    let start = start-of frames-ok in
+    start-begun _ _ (lent-to start)
+    (rw (
+      frames-ok .frames-ok .ensures,
+      heap-ok .heap-ok .ensures,
+      slots-ok .slots-ok .ensures,
+    ) at (verdict-fine _ _ (sym (enum-told .enum-told .given .1) ∙ check .check .ensures))) _
+    (begin .begin .ensures (start .args .slots .now) (start .args .spare .now))
 
 pub start-spec : {M : Type 1} → statement M
 start-spec =
