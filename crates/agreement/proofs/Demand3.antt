@@ -8,27 +8,35 @@ use native.Mathlib.Omega.{arith}
 use lib.ListN.{length}
 use Rattle.gc.specs.Lent.{numbersOf}
 use Rattle.vm.specs.declared.State.{State}
-use Rattle.vm.specs.Core.{Sizes, Core, used, short, spent, _⊑_, setPc, setLand}
+use Rattle.vm.specs.Core.{Sizes, Core, used, short, spent, _⊑_, setPc, setMemory}
 use Rattle.program.specs.Image.{Image, failing}
-use Rattle.vm.specs.Machine.{Machine, sizes, view, Host, Call, run, light, host, Answer, ended, value, done, refused, ranOut, Called, runs, hosted, granted, act, tried}
+use Rattle.vm.specs.Machine.{Machine, sizes, view, Host, Call, run, setting, host, Answer, ended, value, done, refused, ranOut, Called, runs}
+use Rattle.vm.specs.Machine.{hosted, granted, act, tried}
 use Rattle.vm.proofs.Fits.{short-spent, short-up}
 use Rattle.vm.proofs.Runs.{runs-good, CutOn, runs-up}
 use Rattle.vm.proofs.Holds.{Holds}
+use Rattle.vm.specs.Machine.{testsBy}
 use Rattle.vm.proofs.Refusals.{testsOn, run-unspent}
-use Rattle.vm.proofs.Calls.{lighted, holds-run, holds-light, holds-host, perform-is, run-is, host-is}
+use Rattle.vm.proofs.Calls.{settingOn, holds-run, holds-setting, holds-host, perform-is, run-is, host-is}
 use Rattle.vm.proofs.Starting.{first, start-holds}
-use Rattle.agreement.specs.Demand3.{Pair, raised, CutAt, Cut, Same, Agree, Demand3, told, smaller, larger, NoneOut, Level, Demand3-told}
+use Rattle.agreement.specs.Demand3.{Pair, raised, CutAt, Cut, Same, Agree, Demand3, answersTo, smaller, larger, NoneOut, Level, Demand3-whole}
 
 raised-tests : (k : Call) (m : ℕ) (c : Core) → testsOn (raised k m) c ≡ testsOn k c
-unfolding raised testsOn
+unfolding raised testsOn testsBy
 raised-tests (run im b) m c = refl
-raised-tests (light k) m c = refl
+raised-tests (setting k) m c = refl
 raised-tests (host k) m c = refl
 
 -- the numbers of a machine's state are those of the core that it holds
 abbrev stateOf : Core → State
 stateOf c =
-    record { regs = c .regs; pc = c .pc; depth = length (c .frames); gc = numbersOf (c .land .pages); strings = record { active = length (c .land .slots); len = c .land .names } }
+    record {
+      regs = c .regs;
+      pc = c .pc;
+      depth = length (c .frames);
+      gc = numbersOf (c .memory .pages);
+      strings = record { active = length (c .memory .slots); len = c .memory .names };
+    }
 
 same-state : (s t : State) → s .regs ≡ t .regs → s .pc ≡ t .pc → s .depth ≡ t .depth → s .gc ≡ t .gc → s .strings ≡ t .strings → s ≡ t
 same-state s t a b d e f =
@@ -37,7 +45,8 @@ same-state s t a b d e f =
 
 state-is : (n : Sizes) (c : Core) (m : Machine) → Holds n c m → m .state ≡ stateOf c
 unfolding view
-state-is n c m h = same-state (m .state) (stateOf c) (ap (λ (d : Core). d .regs) (h .core)) (ap (λ (d : Core). d .pc) (h .core)) (h .depth) (h .gc) (h .strings)
+state-is n c m h = same-state (m .state) (stateOf c) (ap (λ (d : Core). d .regs) (h .core)) (ap (λ (d : Core). d .pc) (h .core)) (h .depth)
+    (h .gc) (h .strings)
 
 same : (S L : Sizes) (c : Core) (s l : Machine) → Holds S c s → Holds L c l → Same s l
 unfolding Same
@@ -60,23 +69,37 @@ module _ (S L : Sizes) (le : S ⊑ L) (room : 1 ≤ S .frames) (c : Core) (s l :
       rw (run-is S im b c s hs, run-is L im (b + m) c l hl, e)
       (record { answer = refl; core = a .core; small = holds-run S c s hs a g; large = holds-run L c l hl a (g .0, short-up S L _ le (g .1)) })
 
-  granted-alike : (k : Host) (o : Option ℕ) → short S (used (setLand (hosted k (c .land) .land) c)) ≡ o → ranOut (granted o k s (hosted k (c .land)) .answer) ≡ false
-      → Alike (granted o k s (hosted k (c .land))) (granted (short L (used (setLand (hosted k (c .land) .land) c))) k l (hosted k (c .land)))
+  granted-alike : (k : Host) (o : Option ℕ) → short S (used (setMemory (hosted k (c .memory) .memory) c)) ≡ o
+      → ranOut (granted o k s (hosted k (c .memory)) .answer) ≡ false
+      → Alike (granted o k s (hosted k (c .memory)))
+      (granted (short L (used (setMemory (hosted k (c .memory) .memory) c))) k l (hosted k (c .memory)))
   unfolding granted ranOut
   granted-alike k none e h =
       let f = short-up S L _ le e in
-      rw f (record { answer = refl; core = setLand (hosted k (c .land) .land) c; small = holds-host S c s hs k e; large = holds-host L c l hl k f })
+      rw f (record {
+        answer = refl;
+        core = setMemory (hosted k (c .memory) .memory) c;
+        small = holds-host S c s hs k e;
+        large = holds-host L c l hl k f;
+      })
   granted-alike k (some x) e h = absurd (true≢false (sym (short-spent S _ e) ∙ h))
 
   alike : (k : Call) (m : ℕ) → ranOut (act k s .answer) ≡ false → Alike (act k s) (act (raised k m) l)
   unfolding raised
   alike (run im b) m h = run-alike im b m h
-  alike (light k) m h = unfold act in (record { answer = refl; core = lighted k c; small = holds-light S c s hs room k; large = holds-light L c l hl (omega (arith, room, le .frames)) k })
+  alike (setting k) m h = unfold act in
+      (record {
+        answer = refl;
+        core = settingOn k c;
+        small = holds-setting S c s hs room k;
+        large = holds-setting L c l hl (omega (arith, room, le .frames)) k;
+      })
   alike (host k) m h = rw (host-is S k c s hs, host-is L k c l hl) (granted-alike k _ refl (rw (host-is S k c s hs) at h))
 
   -- the run in which the smaller runs out
-  cut-lift : (im : Image) (d : Core) (t : Machine) (a : Answer) → Holds S d t → failing (testsOn (run im 0) c) ≡ none → CutOn S L le im (length (im .code)) c d a → CutAt im t l a
-  unfolding CutAt testsOn tried setPc
+  cut-lift : (im : Image) (d : Core) (t : Machine) (a : Answer) → Holds S d t → failing (testsOn (run im 0) c) ≡ none
+      → CutOn S L le im (length (im .code)) c d a → CutAt im t l a
+  unfolding CutAt testsOn testsBy tried setPc
   cut-lift im d t (ended e p n) v f (x, y) =
       let k = length (im .code) in
       let h = holds-run L c l hl (runs L im n k c) (runs-good L im n k c (hl .fits)) in
@@ -86,25 +109,27 @@ module _ (S L : Sizes) (le : S ⊑ L) (room : 1 ≤ S .frames) (c : Core) (s l :
   cut-lift im d t (refused e) v f x = absurd x
 
   cut-case : (k : Call) → failing (testsOn k c) ≡ none → ranOut (act k s .answer) ≡ true → Cut k (act k s .machine) l (act k s .answer)
-  unfolding Cut testsOn
+  unfolding Cut testsOn testsBy
   cut-case (run im b) f h =
       let k = length (im .code) in
       let g = runs-good S im b k c (hs .fits) in
       rw (run-is S im b c s hs)
-      (cut-lift im _ _ (runs S im b k c .answer) (holds-run S c s hs (runs S im b k c) g) f (runs-up S L le im b 0 k c .1 (rw (run-is S im b c s hs) at h)))
-  cut-case (light k) f h = tt
+      (cut-lift im _ _ (runs S im b k c .answer) (holds-run S c s hs (runs S im b k c) g) f
+      (runs-up S L le im b 0 k c .1 (rw (run-is S im b c s hs) at h)))
+  cut-case (setting k) f h = tt
   cut-case (host k) f h = tt
 
   refused-cut : (k : Call) (t : Machine) (e : ℕ) → failing (testsOn k c) ≡ some e → spent e ≡ true → Cut k t l (refused e)
   unfolding Cut
   refused-cut (run im b) t e f h = absurd (true≢false (sym h ∙ run-unspent im b c e f))
-  refused-cut (light k) t e f h = tt
+  refused-cut (setting k) t e f h = tt
   refused-cut (host k) t e f h = tt
 
 -- ---- the list of calls
 module _ (S L : Sizes) (le : S ⊑ L) (room : 1 ≤ S .frames) where
   agree-case : (p : Pair) (ps : List Pair) (c : Core) (s l : Machine) → Holds S c s → Holds L c l
-      → ((c : Core) (s l : Machine) → Holds S c s → Holds L c l → Agree s l ps) → (t : Option ℕ) → failing (testsOn (p .call) c) ≡ t → Agree s l (p ∷ ps)
+      → ((c : Core) (s l : Machine) → Holds S c s → Holds L c l → Agree s l ps) → (t : Option ℕ) → failing (testsOn (p .call) c) ≡ t
+      → Agree s l (p ∷ ps)
   unfolding Agree tried ranOut
   agree-case p ps c s l hs hl ih none e =
       rw (perform-is S (p .call) c s hs, perform-is L (raised (p .call) (p .more)) c l hl, raised-tests, e) (
@@ -130,14 +155,14 @@ demand3 im base small large s l es el le calls =
     let bl = start-holds im base large l el in
     agree (sizes small) (sizes large) le (bs .room) calls (first base) s l (bs .holds) (bl .holds)
 
-level : (ps : List Pair) (s l : Machine) → ((qs : List Pair) → Agree s l (ps ++ qs)) → NoneOut (told (smaller ps) s .answers) → Level s l ps
-unfolding Agree told smaller larger NoneOut Cut
+level : (ps : List Pair) (s l : Machine) → ((qs : List Pair) → Agree s l (ps ++ qs)) → NoneOut (answersTo (smaller ps) s .answers) → Level s l ps
+unfolding Agree answersTo smaller larger NoneOut Cut
 level [] s l h n = record { answers = refl; held = h []; cut = λ im b z. h (record { call = run im b; more = 0 } ∷ []) .2 z }
 level (p ∷ ps) s l h n =
     let a = h [] .1 (n .0) .0 in
     let r = level ps _ _ (λ qs. h qs .1 (n .0) .1) (n .1) in
     record { answers = ap₂ (λ (x : Answer) (xs : List Answer). x ∷ xs) a (r .answers); held = r .held; cut = r .cut }
 
-pub demand3-told : Demand3-told
-unfolding Demand3-told Demand3
-demand3-told im base small large s l es el le ps n = level ps s l (λ qs. demand3 im base small large s l es el le (ps ++ qs)) n
+pub demand3-whole : Demand3-whole
+unfolding Demand3-whole Demand3
+demand3-whole im base small large s l es el le ps n = level ps s l (λ qs. demand3 im base small large s l es el le (ps ++ qs)) n

@@ -7,7 +7,7 @@ use mathlib.Core.List.{List, [], _∷_}
 use Rattle.vm.specs.declared.State.{State}
 use Rattle.vm.specs.Core.{_⊑_, setPc}
 use Rattle.program.specs.Image.{Image}
-use Rattle.vm.specs.Machine.{Lent, Machine, sizes, view, Call, run, light, host, Answer, ended, value, done, refused, ranOut, perform, begun, start}
+use Rattle.vm.specs.Machine.{Lent, Machine, sizes, view, Call, run, setting, host, Answer, ended, value, done, refused, ranOut, perform, begun, start}
 
 -- a call made on both machines, with the same arguments; 'each run is lent an image, .. the same on both machines'. `more` is what the
 -- larger's budget has on top
@@ -17,7 +17,7 @@ pub record Pair : Type 0 where
 
 unfoldable pub raised : Call → ℕ → Call
 raised (run im b) n = run im (b + n)
-raised (light k) n = light k
+raised (setting k) n = setting k
 raised (host k) n = host k
 
 -- what is compared: registers, stored pc, depth, the numbers of the heap and of the table, count of names; and what these say is in use: frames,
@@ -42,7 +42,7 @@ CutAt im s l (refused e) = ⊥
 
 unfoldable pub Cut : Call → Machine → Machine → Answer → Type 0
 Cut (run im b) s l a = CutAt im s l a
-Cut (light k) s l a = Unit {0}
+Cut (setting k) s l a = Unit {0}
 Cut (host k) s l a = Unit {0}
 
 -- ---- step by step: the same before the first call and after each call before the first in which the smaller runs out, with the same
@@ -65,15 +65,16 @@ Demand3 =
 
 -- ---- as the paper puts it: 'one claim about the whole list'
 
--- all answers to a list of calls, and the machine after it
-pub record Story : Type 0 where
+-- all answers to a list of calls, and the machine after it: 'each call gets the state last returned and the same buffers, whole and as last left,
+-- and nobody else writes them'
+pub record Answers : Type 0 where
   pub answers : List Answer
   pub machine : Machine
 
-unfoldable pub told : List Call → Machine → Story
-told [] m = record { answers = []; machine = m }
-told (k ∷ ks) m =
-    let r = told ks (perform k m .machine) in
+unfoldable pub answersTo : List Call → Machine → Answers
+answersTo [] m = record { answers = []; machine = m }
+answersTo (k ∷ ks) m =
+    let r = answersTo ks (perform k m .machine) in
     record { answers = perform k m .answer ∷ r .answers; machine = r .machine }
 
 unfoldable pub smaller : List Pair → List Call
@@ -90,14 +91,15 @@ NoneOut (a ∷ as′) = (ranOut a ≡ false) × NoneOut as′
 
 -- after a list in which the smaller did not run out: all answers, all that is compared, and the cut of a run after it in which it does
 pub record Level (s l : Machine) (ps : List Pair) : Type 0 where
-  pub answers : told (larger ps) l .answers ≡ told (smaller ps) s .answers
-  pub held : Same (told (smaller ps) s .machine) (told (larger ps) l .machine)
+  pub answers : answersTo (larger ps) l .answers ≡ answersTo (smaller ps) s .answers
+  pub held : Same (answersTo (smaller ps) s .machine) (answersTo (larger ps) l .machine)
   pub cut : (im : Image) (b : ℕ)
-      → ranOut (perform (run im b) (told (smaller ps) s .machine) .answer) ≡ true
-      → CutAt im (perform (run im b) (told (smaller ps) s .machine) .machine) (told (larger ps) l .machine) (perform (run im b) (told (smaller ps) s .machine) .answer)
+      → ranOut (perform (run im b) (answersTo (smaller ps) s .machine) .answer) ≡ true
+      → CutAt im (perform (run im b) (answersTo (smaller ps) s .machine) .machine) (answersTo (larger ps) l .machine)
+      (perform (run im b) (answersTo (smaller ps) s .machine) .answer)
 
-unfoldable pub Demand3-told : Type 0
-Demand3-told =
+unfoldable pub Demand3-whole : Type 0
+Demand3-whole =
     (im : Image) (base : ℕ) (small large : Lent) (s l : Machine)
     → start im base small ≡ begun s → start im base large ≡ begun l → sizes small ⊑ sizes large
-    → (calls : List Pair) → NoneOut (told (smaller calls) s .answers) → Level s l calls
+    → (calls : List Pair) → NoneOut (answersTo (smaller calls) s .answers) → Level s l calls

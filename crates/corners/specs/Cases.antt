@@ -19,7 +19,7 @@ use Rattle.value.specs.Cast.{castToInt, castToDouble}
 use Rattle.string.specs.Hash.{mixed, folded, chunks, hashOf, smallHashOf}
 use Rattle.string.specs.Payload.{payloadOf, reaches, headed, holds}
 use Rattle.string.specs.Table.{home, probe, lookup, never, filled, placed}
-use Rattle.string.specs.Grow.{read, storedHash, movedOne, moved, enlarged, roomOf, widened, roomy, spared}
+use Rattle.string.specs.Grow.{storedHash, movedOne, moved, roomOf, widened, withRoom, spareAfter}
 use Rattle.string.specs.Sound as Table
 use Rattle.gc.specs.Metadata.{headerOf}
 use Rattle.gc.specs.Pages as Pages
@@ -28,12 +28,18 @@ use Rattle.gc.specs.Lent as Heap
 use Rattle.op.specs.Decode as Op
 use Rattle.op.specs.Decode.{decodedBy, decodeOf}
 use Rattle.op.specs.Reach.{checkOf}
-use Rattle.vm.specs.Core.{used, lacking, short, setReg, setPc, setFrames, setLand, setPages, setBytes}
-use Rattle.program.specs.Image.{Image, Tables, startOf, entriesOf, counts, rising, tablesOk, imageOk, endsInHalt, below, wordTest, wordTests, imageTests, failing}
+use Rattle.vm.specs.Core.{used, lacking, short, setReg, setPc, setFrames, setMemory, setPages, setBytes}
+use Rattle.program.specs.Image.{Image, Tables, startOf, entriesOf, counts, rising, tablesOk, imageOk, endsInHalt, below, wordTest}
+use Rattle.program.specs.Image.{wordTests, imageTests, failing}
 use Rattle.program.specs.Effect.{divided, jumpIf, within, slot, switched, effectOf, wordEffect}
-use Rattle.vm.specs.Run.{provided, forward, addressed, loaded, stored8, returned, took, apply, fetched, unless, limited, step, after, go, root, entered, stored}
+use Rattle.vm.specs.Run.{provided, forward, addressed, loaded, stored8, returned, blockTo, apply, fetched, unless, limited, step, after, go}
+use Rattle.vm.specs.Run.{root, entered, stored}
 use Rattle.vm.specs.Names as Names
-use Rattle.vm.specs.Machine.{Lent, Machine, sizes, landOf, view, withPages, withNames, traced, withFrames, withRegs, allocate, option, intern, Call, run, host, Answer, ended, value, done, refused, ran, idle, runs, hosted, lightly, laid, runLeaves, hostLeaves, granted, hostCall, runCall, act, framesOk, heapOk, slotsOk, returnsOk, framesBelong, pagesBelong, namesBelong, smallOk, tests, tried, perform, Started, declined, begun, firstPage, firstLand, blank, begin, starts, start}
+use Rattle.vm.specs.Machine.{Lent, Machine, sizes, memoryOf, view, withPages, withNames, traced, withFrames, withRegs, allocate, option}
+use Rattle.vm.specs.Machine.{intern, Call, run, host, Answer, ended, value, done, refused, ran, idle, runs, hosted, withSetting, laid}
+use Rattle.vm.specs.Machine.{runLeaves, hostLeaves, granted, hostCall, runCall, act, framesOk, heapOk, slotsOk, returnsOk, framesBelong}
+use Rattle.vm.specs.Machine.{pagesBelong, namesBelong, smallOk, testsBy, tests, tried, perform, Started, declined, begun, firstPage, firstMemory}
+use Rattle.vm.specs.Machine.{blank, begin, starts, start}
 
 -- ---- images, buffers, and what is read off
 
@@ -49,7 +55,12 @@ B = 0x10000
 
 -- so many frames, pages and slots, none of them cleared
 unfoldable pub lent : ℕ → ℕ → ℕ → Lent
-lent frames pages slots = record { frames = replicate frames 7; heap = replicate (pages * 4096) 7; slots = replicate slots 7; spare = replicate slots 7 }
+lent frames pages slots = record {
+  frames = replicate frames 7;
+  heap = replicate (pages * 4096) 7;
+  slots = replicate slots 7;
+  spare = replicate slots 7;
+}
 
 unfoldable pub startedIn : Lent → Started → Machine
 startedIn l (declined e) = blank 0 l
@@ -173,5 +184,15 @@ rows =
     ∷ []
 
 pub all-hold : hold rows ≡ true
-unfolding rows hold lent startedIn started afterAll said summed singles shown switching calling worked bytesOf valueOf over write same signed pattern Int.divided bits isNan ofBits toBits ofInt toSigned mixed folded chunks hashOf smallHashOf payloadOf reaches headed holds home probe lookup never filled placed read storedHash movedOne moved enlarged roomOf widened roomy spared Table.slotCount Table.activeOk Table.filledIn Table.headerIn Table.headersIn Table.countOk Table.slotsOk Table.soundOf headerOf Pages.growOf Pages.gapOf Pages.holds Pages.block Pages.pushed Pages.fitted Pages.allocated pagesOf numbersOf Heap.soundOf Op.rows decodedBy decodeOf checkOf used lacking short setReg setPc setFrames setLand setPages setBytes startOf entriesOf counts rising tablesOk imageOk endsInHalt below wordTest wordTests imageTests divided jumpIf within slot switched effectOf provided forward addressed loaded stored8 returned took apply wordEffect fetched unless limited step after go root entered stored Names.filled Names.took Names.allocates Names.boxed Names.optional Names.entered Names.fresh Names.known Names.interned sizes landOf view withPages withNames traced withFrames withRegs ran idle runs hosted lightly laid runLeaves hostLeaves granted hostCall runCall act framesOk heapOk slotsOk returnsOk framesBelong pagesBelong namesBelong smallOk tests failing tried perform firstPage firstLand blank begin starts start
+unfolding rows hold lent startedIn started afterAll said summed singles shown switching calling worked bytesOf valueOf over write same
+    signed pattern Int.divided bits isNan ofBits toBits ofInt toSigned mixed folded chunks hashOf smallHashOf payloadOf reaches headed holds
+    home probe lookup never filled placed storedHash movedOne moved roomOf widened withRoom spareAfter Table.slotCount Table.activeOk
+    Table.filledIn Table.headersIn Table.countOk Table.slotsOk Table.soundOf headerOf Pages.growOf Pages.gapOf Pages.holds
+    Pages.block Pages.pushed Pages.fitted Pages.allocated pagesOf numbersOf Heap.soundOf Op.rows decodedBy decodeOf checkOf used lacking
+    short setReg setPc setFrames setMemory setPages setBytes startOf entriesOf counts rising tablesOk imageOk endsInHalt below wordTest
+    wordTests imageTests divided jumpIf within slot switched effectOf provided forward addressed loaded stored8 returned blockTo apply
+    wordEffect fetched unless limited step after go root entered stored Names.filled Names.asGiven Names.allocates Names.boxed Names.optional
+    Names.tabled Names.fresh Names.known Names.interned sizes memoryOf view withPages withNames traced withFrames withRegs ran idle runs
+    hosted withSetting laid runLeaves hostLeaves granted hostCall runCall act framesOk heapOk slotsOk returnsOk framesBelong pagesBelong
+    namesBelong smallOk tests testsBy failing tried perform firstPage firstMemory blank begin starts start
 all-hold = refl

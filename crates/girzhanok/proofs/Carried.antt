@@ -9,7 +9,8 @@ use lib.Seq.{length-take-le}
 use borrow.Author.Tests.{le-leb}
 use Rattle.program.specs.Image.{Image}
 use Rattle.vm.specs.declared.State.{State}
-use Rattle.vm.specs.Machine.{Lent, Machine, withPages, withFrames, Call, ended, value, done, refused, Answer, perform, begun, start, starts, begin, blank}
+use Rattle.vm.specs.Machine.{Lent, Machine, withPages, withFrames, Call, ended, value, done, refused, Answer, perform, begun, start, starts}
+use Rattle.vm.specs.Machine.{begin, blank}
 use Rattle.vm.specs.Told.{machineOf, startedOn}
 use Rattle.vm.proofs.Ends.{refusal-changes-nothing}
 use Rattle.vm.proofs.Registers.{call-same}
@@ -20,7 +21,8 @@ use Rattle.girzhanok.proofs.Packing.{unpack-pack}
 -- ---- words
 
 -- what is kept of a call on the state that the words hold
-kept-case : (a : Answer) (s : State) (words : List ℕ) → stateWords ≤ length words → length (s .regs) ≡ 32 → ((e : ℕ) → a ≡ refused e → s ≡ unpacked words)
+kept-case : (a : Answer) (s : State) (words : List ℕ) → stateWords ≤ length words → length (s .regs) ≡ 32
+    → ((e : ℕ) → a ≡ refused e → s ≡ unpacked words)
     → unpacked (kept a s words) ≡ s
 unfolding kept
 kept-case (ended e pc steps) s words room long same = unpack-pack s words long room
@@ -40,7 +42,8 @@ carried k words old l room =
     let c = perform k m in
     let here : length (unpacked words .regs) ≡ 32 = registers words room in
     rw (le-leb stateWords (length words) room, within)
-    (kept-case (c .answer) (c .machine .state) words room (call-same m k ∙ here) (λ e h. ap (λ (n : Machine). n .state) (refusal-changes-nothing k m e h)))
+    (kept-case (c .answer) (c .machine .state) words room (call-same m k ∙ here)
+    (λ e h. ap (λ (n : Machine). n .state) (refusal-changes-nothing k m e h)))
 
 -- a start that is not refused
 begun-regs : (base : ℕ) (l : Lent) → length (begin base l .state .regs) ≡ 32
@@ -55,4 +58,5 @@ begun-case (some e) base l m h = let never : _≡_ {A = ℕ} 0 1 = cc in absurd 
 pub start-carried : (im : Image) (base : ℕ) (words : List ℕ) (l : Lent) → stateWords ≤ length words → (m : Machine) → start im base l ≡ begun m
     → unpacked (serveStart im base words l .words) ≡ m .state
 unfolding serveStart within left startedOn kept start
-start-carried im base words l room m h = rw (le-leb stateWords (length words) room, within, h) (unpack-pack (m .state) words (begun-case _ base l m h) room)
+start-carried im base words l room m h = rw (le-leb stateWords (length words) room, within, h)
+    (unpack-pack (m .state) words (begun-case _ base l m h) room)

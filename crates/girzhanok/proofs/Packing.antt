@@ -7,7 +7,7 @@ use native.Mathlib.Nat.{zero-add}
 use lib.ListN.{length, take, drop, getD, length-append}
 use lib.Seq.{take-suc, take-at, getD-append-add, length-take-le}
 use Rattle.memory.specs.Lists.{over, write}
-use Rattle.memory.proofs.Over.{length-over, over-take, over-is, tail-home, write-append}
+use Rattle.memory.proofs.Over.{length-over, over-take, over-is, tail-returned, write-append}
 use Rattle.string.specs.declared.table.StrTable.{StrTable}
 use Rattle.gc.specs.declared.Gc.{Gc}
 use Rattle.vm.specs.declared.State.{State}
@@ -27,7 +27,7 @@ pub packed-home : (s : State) (w u v : List ℕ) → length (s .regs) ≡ 32 →
     → v ≡ over (numbers s) (take (length u - 32) (drop 32 u)) → take 32 u ++ (v ++ drop (length u - 32) (drop 32 u)) ≡ over (packed s) w
 unfolding packed write
 packed-home s w u v long room e f =
-    rw (f, tail-home 32 (length u) (numbers s) u refl (rw (e, length-over) (omega arith)), e)
+    rw (f, tail-returned 32 (length u) (numbers s) u refl (rw (e, length-over) (omega arith)), e)
     (ap (λ (n : ℕ). write n (numbers s) (over (s .regs) w)) (sym (zero-add _ ∙ long)) ∙ write-append 0 (s .regs) (numbers s) w)
 
 pub length-packed : (s : State) → length (s .regs) ≡ 32 → length (packed s) ≡ stateWords
@@ -38,7 +38,16 @@ length-packed s long = length-append (s .regs) (numbers s) ∙ ap (λ (n : ℕ).
 pub packed-unpacked : (w : List ℕ) → stateWords ≤ length w → packed (unpacked w) ≡ take stateWords w
 unfolding packed unpacked
 packed-unpacked w room =
-    sym (rw (take-suc w 39 0 (omega arith), take-suc w 38 0 (omega arith), take-suc w 37 0 (omega arith), take-suc w 36 0 (omega arith), take-suc w 35 0 (omega arith), take-suc w 34 0 (omega arith), take-suc w 33 0 (omega arith), take-suc w 32 0 (omega arith)) (simp append-assoc))
+    sym (rw (
+      take-suc w 39 0 (omega arith),
+      take-suc w 38 0 (omega arith),
+      take-suc w 37 0 (omega arith),
+      take-suc w 36 0 (omega arith),
+      take-suc w 35 0 (omega arith),
+      take-suc w 34 0 (omega arith),
+      take-suc w 33 0 (omega arith),
+      take-suc w 32 0 (omega arith),
+    ) (simp append-assoc))
 
 -- other numbers of heap and table, written over their own words
 pub names-home : (w v : List ℕ) (g : Gc) (t : StrTable) → stateWords ≤ length w → v ≡ over (names g t) (take (length w - 34) (drop 34 w))
@@ -48,8 +57,9 @@ names-home w v g t room f =
     let front : packed (holding (unpacked w) g t) ≡ take 34 w ++ names g t =
     sym (rw (take-suc w 33 0 (omega arith), take-suc w 32 0 (omega arith)) (simp append-assoc)) in
     let long : length (take 34 w) ≡ 34 = length-take-le 34 w (omega arith) in
-    rw (f, tail-home 34 (length w) (names g t) w refl (omega arith), front)
-    (ap (λ (n : ℕ). write n (names g t) w) (sym (zero-add _ ∙ long)) ∙ ap (write (0 + length (take 34 w)) (names g t)) (sym (over-take 34 w)) ∙ write-append 0 (take 34 w) (names g t) w)
+    rw (f, tail-returned 34 (length w) (names g t) w refl (omega arith), front)
+    (ap (λ (n : ℕ). write n (names g t) w) (sym (zero-add _ ∙ long))
+    ∙ ap (write (0 + length (take 34 w)) (names g t)) (sym (over-take 34 w)) ∙ write-append 0 (take 34 w) (names g t) w)
 
 -- 'unchanged': the state that words hold, written over them
 pub pack-unpack : (w : List ℕ) → stateWords ≤ length w → over (packed (unpacked w)) w ≡ w
@@ -64,4 +74,16 @@ unpack-pack s w long room =
     let size : length (packed s) ≤ length w = rw (length-packed s long) room in
     let q : List ℕ = numbers s ++ drop (length (packed s)) w in
     let r = s .regs in
-    rw (over-is (packed s) w size, append-assoc (s .regs) (numbers s), take-at r q 32 long, behind r q 0 long, behind r q 1 long, behind r q 2 long, behind r q 3 long, behind r q 4 long, behind r q 5 long, behind r q 6 long, behind r q 7 long) refl
+    rw (
+      over-is (packed s) w size,
+      append-assoc (s .regs) (numbers s),
+      take-at r q 32 long,
+      behind r q 0 long,
+      behind r q 1 long,
+      behind r q 2 long,
+      behind r q 3 long,
+      behind r q 4 long,
+      behind r q 5 long,
+      behind r q 6 long,
+      behind r q 7 long,
+    ) refl

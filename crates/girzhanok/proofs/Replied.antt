@@ -24,7 +24,8 @@ done-number (Reply.Value v) is = refl
 done-number Reply.Done is = refl
 done-number (Reply.Refused why) is = absurd (miss (0 ∷ 1 ∷ []) 2 tt is)
 
-pub done-kept : (reply : Reply) → OneOf (0 ∷ 1 ∷ []) (tagOf replies.the-type reply) → (s : State) (words : List ℕ) → over (packed s) words ≡ kept (saidOf reply) s words
+pub done-kept : (reply : Reply) → OneOf (0 ∷ 1 ∷ []) (tagOf replies.the-type reply) → (s : State) (words : List ℕ)
+    → over (packed s) words ≡ kept (saidOf reply) s words
 unfolding kept saidOf
 done-kept (Reply.Value v) is s words = refl
 done-kept Reply.Done is s words = refl
@@ -45,14 +46,16 @@ end-number (End.Budget pc steps) = refl
 end-number (End.Stopped why) = refl
 end-number (End.Refused why) = refl
 
-pub end-answers : (end : End) → OneOf (0 ∷ 1 ∷ 2 ∷ []) (tagOf ends.the-type end) → (old : List ℕ) → pcOfEnd end ∷ stepsOfEnd end ∷ [] ≡ answered (answerOf end) old
+pub end-answers : (end : End) → OneOf (0 ∷ 1 ∷ 2 ∷ []) (tagOf ends.the-type end) → (old : List ℕ)
+    → pcOfEnd end ∷ stepsOfEnd end ∷ [] ≡ answered (answerOf end) old
 unfolding answered answerOf
 end-answers (End.Halt pc steps) is old = refl
 end-answers (End.Budget pc steps) is old = refl
 end-answers (End.Stopped why) is old = refl
 end-answers (End.Refused why) is old = absurd (miss (0 ∷ 1 ∷ 2 ∷ []) 3 tt is)
 
-pub end-kept : (end : End) → OneOf (0 ∷ 1 ∷ 2 ∷ []) (tagOf ends.the-type end) → (s : State) (words : List ℕ) → over (packed s) words ≡ kept (answerOf end) s words
+pub end-kept : (end : End) → OneOf (0 ∷ 1 ∷ 2 ∷ []) (tagOf ends.the-type end) → (s : State) (words : List ℕ)
+    → over (packed s) words ≡ kept (answerOf end) s words
 unfolding kept answerOf
 end-kept (End.Halt pc steps) is s words = refl
 end-kept (End.Budget pc steps) is s words = refl

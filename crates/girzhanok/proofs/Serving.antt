@@ -8,7 +8,7 @@ use lib.Dec.{leb}
 use borrow.Author.Tests.{le-leb, lt-leb}
 use Rattle.program.specs.Image.{Image, failing}
 use Rattle.vm.specs.declared.State.{State}
-use Rattle.vm.specs.Machine.{Lent, Machine, Call, light, Light, refused, Called, tests, act, tried, perform, Started, declined, begun, start}
+use Rattle.vm.specs.Machine.{Lent, Machine, Call, setting, Setting, refused, Called, tests, act, tried, perform, Started, declined, begun, start}
 use Rattle.vm.specs.Told.{machineOf, startedOn}
 use Rattle.vm.proofs.Ends.{refusal-changes-nothing}
 use Rattle.girzhanok.specs.Words.{stateWords, unpacked}
@@ -28,19 +28,20 @@ module _ (k : Call) (words old : List ℕ) (l : Lent) where
 
   -- a call c on the state s that the words hold
   pub served : stateWords ≤ length words → (s : State) → s ≡ unpacked words → (c : Called) → c ≡ perform k (machineOf s l) → (r : ℕ) (w v : List ℕ)
-      → r ≡ numberOf (c .answer) → w ≡ kept (c .answer) (c .machine .state) words → v ≡ answered (c .answer) old → servedOf r w v (c .machine .lent) ≡ serve k words old l
+      → r ≡ numberOf (c .answer) → w ≡ kept (c .answer) (c .machine .state) words → v ≡ answered (c .answer) old
+      → servedOf r w v (c .machine .lent) ≡ serve k words old l
   unfolding serve
   served room s is c e = served-within words old l room c (perform k (machineOf (unpacked words) l)) (rw is at e)
 
 -- calls on the state and frame 0 alone answer no value
-quiet-case : (o : Option ℕ) (k : Light) (m : Machine) → [] ≡ answered (tried o (light k) m .answer) []
+quiet-case : (o : Option ℕ) (k : Setting) (m : Machine) → [] ≡ answered (tried o (setting k) m .answer) []
 unfolding tried act answered
 quiet-case none k m = refl
 quiet-case (some e) k m = refl
 
-pub quiet : (k : Light) (m : Machine) (c : Called) → c ≡ perform (light k) m → [] ≡ answered (c .answer) []
+pub quiet : (k : Setting) (m : Machine) (c : Called) → c ≡ perform (setting k) m → [] ≡ answered (c .answer) []
 unfolding perform
-quiet k m c e = rw e (quiet-case (failing (tests (light k) (m .state) (m .lent))) k m)
+quiet k m c e = rw e (quiet-case (failing (tests (setting k) (m .state) (m .lent))) k m)
 
 -- ---- a start
 
@@ -54,7 +55,8 @@ module _ (im : Image) (base : ℕ) (words : List ℕ) (l : Lent) where
   unfolding serveStart within
   start-short h = rw (lt-leb stateWords (length words) h, within) refl
 
-  pub start-served : stateWords ≤ length words → (c : Called) → c ≡ startedOn (start im base l) base l → (r : ℕ) (w : List ℕ) → r ≡ numberOf (c .answer)
+  pub start-served : stateWords ≤ length words → (c : Called) → c ≡ startedOn (start im base l) base l → (r : ℕ) (w : List ℕ)
+      → r ≡ numberOf (c .answer)
       → w ≡ kept (c .answer) (c .machine .state) words → servedOf r w [] (c .machine .lent) ≡ serveStart im base words l
   unfolding serveStart
   start-served room c e r w number stored =
@@ -62,7 +64,8 @@ module _ (im : Image) (base : ℕ) (words : List ℕ) (l : Lent) where
 
 -- ---- a refused call: 'unchanged'
 
-pub refusal-writes-nothing : (k : Call) (words old : List ℕ) (l : Lent) (e : ℕ) → stateWords ≤ length words → perform k (machineOf (unpacked words) l) .answer ≡ refused e
+pub refusal-writes-nothing : (k : Call) (words old : List ℕ) (l : Lent) (e : ℕ) → stateWords ≤ length words
+    → perform k (machineOf (unpacked words) l) .answer ≡ refused e
     → serve k words old l ≡ servedOf e words old l
 unfolding serve within left numberOf answered kept
 refusal-writes-nothing k words old l e room h =

@@ -20,7 +20,8 @@ use vm::Reply;
 // The number of a reply. The words of the state are written unless it is a refusal.
 pub fn answer(called: Called, words: &mut [u64]) -> u64
     requires { ⌜ stateWords ≤ length (now words) ⌝ }
-    ensures { λ r. ⌜ (r ≡ numberOf (saidOf (called .reply))) × (now (words .exit) ≡ kept (saidOf (called .reply)) (called .state) (now (words .entry))) ⌝ }
+    ensures { λ r. ⌜ (r ≡ numberOf (saidOf (called .reply)))
+        × (now (words .exit) ≡ kept (saidOf (called .reply)) (called .state) (now (words .entry))) ⌝ }
 {
     let reply = called.reply;
     match reply {
@@ -48,7 +49,9 @@ fn put_value(reply: Reply, value: &mut u64)
 // `answer`, and the value where there is one.
 pub fn answer_value(called: Called, words: &mut [u64], value: &mut u64) -> u64
     requires { ⌜ stateWords ≤ length (now words) ⌝ }
-    ensures { λ r. ⌜ (r ≡ numberOf (saidOf (called .reply))) × (now (words .exit) ≡ kept (saidOf (called .reply)) (called .state) (now (words .entry))) × (now (value .exit) ∷ [] ≡ answered (saidOf (called .reply)) (now (value .entry) ∷ [])) ⌝ }
+    ensures { λ r. ⌜ (r ≡ numberOf (saidOf (called .reply)))
+        × (now (words .exit) ≡ kept (saidOf (called .reply)) (called .state) (now (words .entry)))
+        × (now (value .exit) ∷ [] ≡ answered (saidOf (called .reply)) (now (value .entry) ∷ [])) ⌝ }
 {
     let reply = called.reply;
     put_value(reply, value);
@@ -58,7 +61,11 @@ pub fn answer_value(called: Called, words: &mut [u64], value: &mut u64) -> u64
 // The same of an interning.
 pub fn answer_name(interned: Interned, words: &mut [u64], value: &mut u64) -> u64
     requires { ⌜ stateWords ≤ length (now words) ⌝ }
-    ensures { λ r. ⌜ (r ≡ numberOf (saidOf (interned .reply))) × (now (words .exit) ≡ kept (saidOf (interned .reply)) (holding (unpacked (now (words .entry))) (interned .gc) (interned .strings)) (now (words .entry))) × (now (value .exit) ∷ [] ≡ answered (saidOf (interned .reply)) (now (value .entry) ∷ [])) ⌝ }
+    ensures { λ r. ⌜ (r ≡ numberOf (saidOf (interned .reply)))
+        × (now (words .exit)
+        ≡ kept (saidOf (interned .reply)) (holding (unpacked (now (words .entry))) (interned .gc) (interned .strings))
+        (now (words .entry)))
+        × (now (value .exit) ∷ [] ≡ answered (saidOf (interned .reply)) (now (value .entry) ∷ [])) ⌝ }
 {
     let reply = interned.reply;
     put_value(reply, value);
@@ -76,7 +83,9 @@ pub fn answer_name(interned: Interned, words: &mut [u64], value: &mut u64) -> u6
 // The same of a run: pc and steps, unless it was refused.
 pub fn answer_run(ran: Ran, words: &mut [u64], pc: &mut usize, steps: &mut Steps) -> u64
     requires { ⌜ stateWords ≤ length (now words) ⌝ }
-    ensures { λ r. ⌜ (r ≡ numberOf (answerOf (ran .end))) × (now (words .exit) ≡ kept (answerOf (ran .end)) (ran .state) (now (words .entry))) × (now (pc .exit) ∷ now (steps .exit) ∷ [] ≡ answered (answerOf (ran .end)) (now (pc .entry) ∷ now (steps .entry) ∷ [])) ⌝ }
+    ensures { λ r. ⌜ (r ≡ numberOf (answerOf (ran .end)))
+        × (now (words .exit) ≡ kept (answerOf (ran .end)) (ran .state) (now (words .entry)))
+        × (now (pc .exit) ∷ now (steps .exit) ∷ [] ≡ answered (answerOf (ran .end)) (now (pc .entry) ∷ now (steps .entry) ∷ [])) ⌝ }
 {
     let end = ran.end;
     match end {

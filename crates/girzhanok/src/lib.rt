@@ -3,7 +3,7 @@ ghost use mathlib.Core.Path.{_≡_};
 ghost use mathlib.Core.List.{List, [], _∷_};
 ghost use Prim.Native.Nat.{ℕ};
 ghost use Rattle.program.specs.Image.{tablesOf, imageOf};
-ghost use Rattle.vm.specs.Machine.{Lent, run, light, reset, putPc, putReg, host, allocate, option, intern, internSmall};
+ghost use Rattle.vm.specs.Machine.{Lent, run, setting, reset, putPc, putReg, host, allocate, option, intern, internSmall};
 ghost use Rattle.vm.specs.Told.{lentOf};
 ghost use Rattle.girzhanok.specs.Served.{servedOf, given, serve, serveStart};
 
@@ -44,7 +44,12 @@ pub extern "C" fn girzhanok_start(
     slots: &[u64],
     spare: &[u64],
 ) -> u64
-    ensures { λ r. ⌜ servedOf r (now (state .exit)) [] (lentOf (now (frames .exit)) (now (heap .exit)) (now (slots .entry)) (now (spare .entry))) ≡ serveStart (imageOf (now (code .entry)) (now (globals .entry)) (tablesOf (now («switch_firsts» .entry)) (now («switch_ends» .entry)) (now («switch_entries» .entry))) (tablesOf (now («lookup_firsts» .entry)) (now («lookup_ends» .entry)) (now («lookup_entries» .entry))) (now (defaults .entry))) base (now (state .entry)) (lentOf (now (frames .entry)) (now (heap .entry)) (now (slots .entry)) (now (spare .entry))) ⌝ }
+    ensures { λ r. ⌜ servedOf r (now (state .exit)) []
+        (lentOf (now (frames .exit)) (now (heap .exit)) (now (slots .entry)) (now (spare .entry)))
+        ≡ serveStart (imageOf (now (code .entry)) (now (globals .entry))
+        (tablesOf (now («switch_firsts» .entry)) (now («switch_ends» .entry)) (now («switch_entries» .entry)))
+        (tablesOf (now («lookup_firsts» .entry)) (now («lookup_ends» .entry)) (now («lookup_entries» .entry))) (now (defaults .entry)))
+        base (now (state .entry)) (lentOf (now (frames .entry)) (now (heap .entry)) (now (slots .entry)) (now (spare .entry))) ⌝ }
 {
     if state.len() < STATE_WORDS {
         return Refusal::SIZE;
@@ -86,7 +91,14 @@ pub extern "C" fn girzhanok_run(
     pc: &mut usize,
     steps: &mut Steps,
 ) -> u64
-    ensures { λ r. ⌜ ((slots spare : List ℕ) → servedOf r (now (state .exit)) (now (pc .exit) ∷ now (steps .exit) ∷ []) (lentOf (now (frames .exit)) (now (heap .exit)) slots spare) ≡ serve (run (imageOf (now (code .entry)) (now (globals .entry)) (tablesOf (now («switch_firsts» .entry)) (now («switch_ends» .entry)) (now («switch_entries» .entry))) (tablesOf (now («lookup_firsts» .entry)) (now («lookup_ends» .entry)) (now («lookup_entries» .entry))) (now (defaults .entry))) budget) (now (state .entry)) (now (pc .entry) ∷ now (steps .entry) ∷ []) (lentOf (now (frames .entry)) (now (heap .entry)) slots spare)) ⌝ }
+    ensures { λ r. ⌜ ((slots spare : List ℕ)
+        → servedOf r (now (state .exit)) (now (pc .exit) ∷ now (steps .exit) ∷ [])
+        (lentOf (now (frames .exit)) (now (heap .exit)) slots spare)
+        ≡ serve (run (imageOf (now (code .entry)) (now (globals .entry))
+        (tablesOf (now («switch_firsts» .entry)) (now («switch_ends» .entry)) (now («switch_entries» .entry)))
+        (tablesOf (now («lookup_firsts» .entry)) (now («lookup_ends» .entry)) (now («lookup_entries» .entry))) (now (defaults .entry)))
+        budget) (now (state .entry)) (now (pc .entry) ∷ now (steps .entry) ∷ [])
+        (lentOf (now (frames .entry)) (now (heap .entry)) slots spare)) ⌝ }
 {
     if state.len() < STATE_WORDS {
         return Refusal::SIZE;
@@ -111,7 +123,9 @@ pub extern "C" fn girzhanok_run(
 
 #[no_mangle]
 pub extern "C" fn girzhanok_reset(state: &mut [u64], frames: &mut [u64]) -> u64
-    ensures { λ r. ⌜ ((heap slots spare : List ℕ) → servedOf r (now (state .exit)) [] (lentOf (now (frames .exit)) heap slots spare) ≡ serve (light reset) (now (state .entry)) [] (lentOf (now (frames .entry)) heap slots spare)) ⌝ }
+    ensures { λ r. ⌜ ((heap slots spare : List ℕ)
+        → servedOf r (now (state .exit)) [] (lentOf (now (frames .exit)) heap slots spare)
+        ≡ serve (setting reset) (now (state .entry)) [] (lentOf (now (frames .entry)) heap slots spare)) ⌝ }
 {
     if state.len() < STATE_WORDS {
         return Refusal::SIZE;
@@ -122,7 +136,7 @@ pub extern "C" fn girzhanok_reset(state: &mut [u64], frames: &mut [u64]) -> u64
 
 #[no_mangle]
 pub extern "C" fn girzhanok_set_pc(state: &mut [u64], pc: usize) -> u64
-    ensures { λ r. ⌜ ((l : Lent) → servedOf r (now (state .exit)) [] l ≡ serve (light (putPc pc)) (now (state .entry)) [] l) ⌝ }
+    ensures { λ r. ⌜ ((l : Lent) → servedOf r (now (state .exit)) [] l ≡ serve (setting (putPc pc)) (now (state .entry)) [] l) ⌝ }
 {
     if state.len() < STATE_WORDS {
         return Refusal::SIZE;
@@ -134,7 +148,7 @@ pub extern "C" fn girzhanok_set_pc(state: &mut [u64], pc: usize) -> u64
 
 #[no_mangle]
 pub extern "C" fn girzhanok_set_register(state: &mut [u64], number: usize, value: u64) -> u64
-    ensures { λ r. ⌜ ((l : Lent) → servedOf r (now (state .exit)) [] l ≡ serve (light (putReg number value)) (now (state .entry)) [] l) ⌝ }
+    ensures { λ r. ⌜ ((l : Lent) → servedOf r (now (state .exit)) [] l ≡ serve (setting (putReg number value)) (now (state .entry)) [] l) ⌝ }
 {
     if state.len() < STATE_WORDS {
         return Refusal::SIZE;
@@ -152,7 +166,10 @@ pub extern "C" fn girzhanok_allocate(
     heap: &mut [u8],
     value: &mut u64,
 ) -> u64
-    ensures { λ r. ⌜ ((frames slots spare : List ℕ) → servedOf r (now (state .exit)) (now (value .exit) ∷ []) (lentOf frames (now (heap .exit)) slots spare) ≡ serve (host (allocate kind align size)) (now (state .entry)) (now (value .entry) ∷ []) (lentOf frames (now (heap .entry)) slots spare)) ⌝ }
+    ensures { λ r. ⌜ ((frames slots spare : List ℕ)
+        → servedOf r (now (state .exit)) (now (value .exit) ∷ []) (lentOf frames (now (heap .exit)) slots spare)
+        ≡ serve (host (allocate kind align size)) (now (state .entry)) (now (value .entry) ∷ [])
+        (lentOf frames (now (heap .entry)) slots spare)) ⌝ }
 {
     if state.len() < STATE_WORDS {
         return Refusal::SIZE;
@@ -170,7 +187,10 @@ pub extern "C" fn girzhanok_option(
     heap: &mut [u8],
     value: &mut u64,
 ) -> u64
-    ensures { λ r. ⌜ ((frames slots spare : List ℕ) → servedOf r (now (state .exit)) (now (value .exit) ∷ []) (lentOf frames (now (heap .exit)) slots spare) ≡ serve (host (option (given some payload))) (now (state .entry)) (now (value .entry) ∷ []) (lentOf frames (now (heap .entry)) slots spare)) ⌝ }
+    ensures { λ r. ⌜ ((frames slots spare : List ℕ)
+        → servedOf r (now (state .exit)) (now (value .exit) ∷ []) (lentOf frames (now (heap .exit)) slots spare)
+        ≡ serve (host (option (given some payload))) (now (state .entry)) (now (value .entry) ∷ [])
+        (lentOf frames (now (heap .entry)) slots spare)) ⌝ }
 {
     if state.len() < STATE_WORDS {
         return Refusal::SIZE;
@@ -188,7 +208,11 @@ pub extern "C" fn girzhanok_intern(
     spare: &mut [u64],
     value: &mut u64,
 ) -> u64
-    ensures { λ r. ⌜ ((frames : List ℕ) → servedOf r (now (state .exit)) (now (value .exit) ∷ []) (lentOf frames (now (heap .exit)) (now (slots .exit)) (now (spare .exit))) ≡ serve (host (intern (now (name .entry)))) (now (state .entry)) (now (value .entry) ∷ []) (lentOf frames (now (heap .entry)) (now (slots .entry)) (now (spare .entry)))) ⌝ }
+    ensures { λ r. ⌜ ((frames : List ℕ)
+        → servedOf r (now (state .exit)) (now (value .exit) ∷ [])
+        (lentOf frames (now (heap .exit)) (now (slots .exit)) (now (spare .exit)))
+        ≡ serve (host (intern (now (name .entry)))) (now (state .entry)) (now (value .entry) ∷ [])
+        (lentOf frames (now (heap .entry)) (now (slots .entry)) (now (spare .entry)))) ⌝ }
 {
     if state.len() < STATE_WORDS {
         return Refusal::SIZE;
@@ -209,7 +233,11 @@ pub extern "C" fn girzhanok_intern_small(
     spare: &mut [u64],
     value: &mut u64,
 ) -> u64
-    ensures { λ r. ⌜ ((frames : List ℕ) → servedOf r (now (state .exit)) (now (value .exit) ∷ []) (lentOf frames (now (heap .exit)) (now (slots .exit)) (now (spare .exit))) ≡ serve (host (internSmall len word)) (now (state .entry)) (now (value .entry) ∷ []) (lentOf frames (now (heap .entry)) (now (slots .entry)) (now (spare .entry)))) ⌝ }
+    ensures { λ r. ⌜ ((frames : List ℕ)
+        → servedOf r (now (state .exit)) (now (value .exit) ∷ [])
+        (lentOf frames (now (heap .exit)) (now (slots .exit)) (now (spare .exit)))
+        ≡ serve (host (internSmall len word)) (now (state .entry)) (now (value .entry) ∷ [])
+        (lentOf frames (now (heap .entry)) (now (slots .entry)) (now (spare .entry)))) ⌝ }
 {
     if state.len() < STATE_WORDS {
         return Refusal::SIZE;

@@ -1,5 +1,6 @@
 // Each of the machine's calls, with a refused one of each number from 9 to 18, printed: a label, and what was answered.
 use anomaly::End;
+use anomaly::Steps;
 use libc::STDOUT_FILENO;
 use run::Ran;
 use vm::Called;
@@ -8,7 +9,7 @@ use vm::Reply;
 use vm::State;
 use vm::start;
 
-const BASE: u64 = 65536;
+const BASE: u64 = 0x1_0000;
 
 fn number(text: &[u8], n: u64, digits: usize) {
     io::write_all(STDOUT_FILENO, text);
@@ -58,7 +59,7 @@ fn registers(state: State) {
 fn run(
     label: &[u8],
     state: State,
-    budget: u32,
+    budget: Steps,
     code: &[u64],
     frames: &mut [u64],
     heap: &mut [u8],
@@ -114,58 +115,15 @@ fn runs(state: State, frames: &mut [u64; 4], heap: &mut [u8; 8192]) -> State {
     run(b"run after reset", s, 10, &code, frames, heap)
 }
 
-// What a run refuses, in the order of the numbers: of state and buffers, then of the image.
-fn refused_runs(state: State, frames: &mut [u64; 4], heap: &mut [u8; 8192]) -> State {
+// A run of one word and a Halt.
+fn run_word(label: &[u8], word: u64, state: State, frames: &mut [u64], heap: &mut [u8]) {
+    let code: [u64; 2] = [word, 59];
+    run(label, state, 1, &code, frames, heap);
+}
+
+// A run with a table whose one target is place 1 of code that has no such place.
+fn run_table(label: &[u8], state: State, frames: &mut [u64], heap: &mut [u8]) {
     let halt: [u64; 1] = [59];
-    let mut deep = state;
-    deep.depth = frames.len() + 1;
-    run(
-        b"run at a depth above the frames",
-        deep,
-        1,
-        &halt,
-        frames,
-        heap,
-    );
-    run(b"run with no heap", state, 1, &halt, frames, &mut []);
-    let nop: [u64; 1] = [60];
-    run(b"run of code without a Halt", state, 1, &nop, frames, heap);
-    let push: [u64; 2] = [42, 59];
-    run(
-        b"run of an opcode that is not carried",
-        state,
-        1,
-        &push,
-        frames,
-        heap,
-    );
-    let register: [u64; 2] = [0x0000_0000_0000_201a, 59];
-    run(
-        b"run of a word with register 32",
-        state,
-        1,
-        &register,
-        frames,
-        heap,
-    );
-    let jump: [u64; 2] = [0x0000_0000_0002_001d, 59];
-    run(
-        b"run of a jump past the code",
-        state,
-        1,
-        &jump,
-        frames,
-        heap,
-    );
-    let global: [u64; 2] = [0x0000_0000_0000_001c, 59];
-    run(
-        b"run of a global that is not there",
-        state,
-        1,
-        &global,
-        frames,
-        heap,
-    );
     let none: [u64; 0] = [];
     let one: [u64; 1] = [1];
     let ran = run::run(
@@ -183,7 +141,59 @@ fn refused_runs(state: State, frames: &mut [u64; 4], heap: &mut [u8; 8192]) -> S
         frames,
         heap,
     );
-    ended(b"run with a table's target past the code", ran)
+    ended(label, ran);
+}
+
+// What a run refuses of state and buffers, then of the image, in the order of the numbers.
+fn refused_runs(state: State, frames: &mut [u64; 4], heap: &mut [u8; 8192]) {
+    let halt: [u64; 1] = [59];
+    let nop: [u64; 1] = [60];
+    let mut deep = state;
+    deep.depth = frames.len() + 1;
+    run(
+        b"run at a depth above the frames",
+        deep,
+        1,
+        &halt,
+        frames,
+        heap,
+    );
+    run(b"run with no heap", state, 1, &halt, frames, &mut []);
+    run(b"run of code without a Halt", state, 1, &nop, frames, heap);
+    run_word(
+        b"run of an opcode that is not carried",
+        42,
+        state,
+        frames,
+        heap,
+    );
+    run_word(
+        b"run of a word with register 32",
+        0x201a,
+        state,
+        frames,
+        heap,
+    );
+    run_word(
+        b"run of a jump past the code",
+        0x0002_001d,
+        state,
+        frames,
+        heap,
+    );
+    run_word(
+        b"run of a global that is not there",
+        0x1c,
+        state,
+        frames,
+        heap,
+    );
+    run_table(
+        b"run with a table's target past the code",
+        state,
+        frames,
+        heap,
+    );
 }
 
 fn blocks(state: State, heap: &mut [u8; 8192]) -> State {
@@ -192,7 +202,7 @@ fn blocks(state: State, heap: &mut [u8; 8192]) -> State {
         b"allocate with an alignment of 3",
         s.allocate(1, 3, 40, heap),
     );
-    let s = said(b"allocate 2^20 bytes", s.allocate(1, 8, 1048576, heap));
+    let s = said(b"allocate 2^20 bytes", s.allocate(1, 8, 0x10_0000, heap));
     let s = said(b"option of 5", s.new_option(Opt::Some(5), heap));
     said(b"option of none", s.new_option(Opt::None, heap))
 }
@@ -248,51 +258,50 @@ fn many_names(
     )
 }
 
-fn main() {
+// A start on a lone Halt.
+fn begin(
+    label: &[u8],
+    base: u64,
+    frames: &mut [u64],
+    heap: &mut [u8],
+    slots: &[u64],
+    spare: &[u64],
+) -> State {
     let halt: [u64; 1] = [59];
     let none: [u64; 0] = [];
+    let called = start::start(
+        base,
+        &halt,
+        &none,
+        &none,
+        &none,
+        &none,
+        &none,
+        &none,
+        &none,
+        &none,
+        frames,
+        heap,
+        slots,
+        spare,
+    );
+    said(label, called)
+}
+
+fn main() {
     let mut frames = [0u64; 4];
     let mut heap = [0u8; 8192];
     let mut slots = [0u64; 64];
     let mut spare = [0u64; 64];
-    said(
+    begin(
         b"start at no page's address",
-        start::start(
-            100,
-            &halt,
-            &none,
-            &none,
-            &none,
-            &none,
-            &none,
-            &none,
-            &none,
-            &none,
-            &mut frames,
-            &mut heap,
-            &slots,
-            &spare,
-        ),
+        100,
+        &mut frames,
+        &mut heap,
+        &slots,
+        &spare,
     );
-    let s = said(
-        b"start",
-        start::start(
-            BASE,
-            &halt,
-            &none,
-            &none,
-            &none,
-            &none,
-            &none,
-            &none,
-            &none,
-            &none,
-            &mut frames,
-            &mut heap,
-            &slots,
-            &spare,
-        ),
-    );
+    let s = begin(b"start", BASE, &mut frames, &mut heap, &slots, &spare);
     registers(s);
     let s = said(b"set register 32", s.set_register(32, 1));
     let s = runs(s, &mut frames, &mut heap);

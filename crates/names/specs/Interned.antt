@@ -10,7 +10,7 @@ use Rattle.string.specs.declared.table.StrTable.{StrTable}
 use Rattle.string.specs.Payload.{payloadOf, payloadSize}
 use Rattle.gc.specs.declared.Gc.{Gc}
 use Rattle.gc.specs.Pages.{Pages, Block, allocated}
-use Rattle.gc.specs.Lent.{pageSize, Sound}
+use Rattle.gc.specs.Lent.{pageSize, InHeap}
 use Rattle.vm.specs.declared.State.{State}
 use Rattle.vm.specs.declared.Called.{Called}
 use Rattle.names.specs.declared.interner.Tested.{Tested}
@@ -28,7 +28,7 @@ nameBlock s hash p = written (payloadOf s hash) (allocated pageSize 3 (payloadSi
 
 -- what 10 and 9 have tested before a name is looked for
 pub record Belong (g : Gc) (t : StrTable) (heap slots spare : List ℕ) : Type 0 where
-  pub pages : Sound g heap
+  pub pages : InHeap g heap
   pub active : t .active ≤ length slots
   pub few : t .len ≤ t .active
   pub most : length slots ≤ 4096

@@ -3,11 +3,11 @@ ghost use mathlib.Core.Path.{_≡_};
 ghost use mathlib.Core.List.{List};
 ghost use Prim.Native.Nat.{ℕ};
 ghost use Rattle.string.specs.Hash.{hashOf};
-ghost use Rattle.gc.specs.Lent.{pagesOf, outcome, grantedIn, Sound};
+ghost use Rattle.gc.specs.Lent.{pagesOf, outcome, grantedIn, InHeap};
 ghost use Rattle.program.specs.Image.{failing};
 ghost use Rattle.vm.specs.declared.State.{State};
 ghost use Rattle.vm.specs.Names.{fresh, known};
-ghost use Rattle.vm.specs.Machine.{landOf, intern, internSmall, host, hostCall, smallOk, nameTests, perform};
+ghost use Rattle.vm.specs.Machine.{memoryOf, intern, internSmall, host, hostCall, smallOk, found, nameTests, perform};
 ghost use Rattle.vm.specs.Told.{lentOf, machineOf, holding, told};
 ghost use Rattle.names.specs.Interned.{nameBlock, Belong, testedOf, internedIn};
 use anomaly::Refusal;
@@ -38,8 +38,9 @@ pub struct Interned {
 
 // A block with the header and the bytes of `s`, whose hash is `hash`.
 fn store(gc: Gc, s: &[u8], hash: u32, heap: &mut [u8]) -> Alloc
-    requires { ⌜ Sound gc (now heap) ⌝ }
-    ensures { λ r. ⌜ outcome r (now (heap .exit)) ≡ grantedIn (nameBlock (now (s .entry)) hash (pagesOf gc (now (heap .entry)))) (now (heap .entry)) ⌝ }
+    requires { ⌜ InHeap gc (now heap) ⌝ }
+    ensures { λ r. ⌜ outcome r (now (heap .exit))
+        ≡ grantedIn (nameBlock (now (s .entry)) hash (pagesOf gc (now (heap .entry)))) (now (heap .entry)) ⌝ }
 {
     let size = payload::payload_size(s.len());
     let header = Metadata::new(AllocType::String, false, size);
@@ -63,7 +64,9 @@ fn small_ok(len: usize, word: u64) -> bool
 
 // 10, then 9.
 fn check(gc: Gc, strings: StrTable, heap: &[u8], slots: &[u64], spare: &[u64]) -> Tested
-    ensures { λ r. ⌜ ((rest : State) (frames : List ℕ) → testedOf r ≡ failing (nameTests (holding rest gc strings) (lentOf frames (now (heap .entry)) (now (slots .entry)) (now (spare .entry))))) ⌝ }
+    ensures { λ r. ⌜ ((rest : State) (frames : List ℕ)
+        → testedOf r
+        ≡ failing (nameTests (found (holding rest gc strings) (lentOf frames (now (heap .entry)) (now (slots .entry)) (now (spare .entry)))))) ⌝ }
 {
     if !(lent::heap_ok(gc.base, heap.len()) & lent::slots_ok(slots.len(), spare.len())) {
         return Tested::Failed(Refusal::Size);
@@ -96,7 +99,12 @@ fn fresh(
     spare: &mut [u64],
 ) -> Interned
     requires { ⌜ Belong gc strings (now heap) (now slots) (now spare) × (hash ≡ hashOf (now s)) ⌝ }
-    ensures { λ r. ⌜ ((rest : State) (frames : List ℕ) → told (internedIn rest r) (lentOf frames (now (heap .exit)) (now (slots .exit)) (now (spare .exit))) ≡ hostCall (intern (now (s .entry))) (machineOf (holding rest gc strings) (lentOf frames (now (heap .entry)) (now (slots .entry)) (now (spare .entry)))) (fresh (now (s .entry)) (landOf (machineOf (holding rest gc strings) (lentOf frames (now (heap .entry)) (now (slots .entry)) (now (spare .entry))))))) ⌝ }
+    ensures { λ r. ⌜ ((rest : State) (frames : List ℕ)
+        → told (internedIn rest r) (lentOf frames (now (heap .exit)) (now (slots .exit)) (now (spare .exit)))
+        ≡ hostCall (intern (now (s .entry)))
+        (machineOf (holding rest gc strings) (lentOf frames (now (heap .entry)) (now (slots .entry)) (now (spare .entry))))
+        (fresh (now (s .entry)) (memoryOf
+        (machineOf (holding rest gc strings) (lentOf frames (now (heap .entry)) (now (slots .entry)) (now (spare .entry))))))) ⌝ }
 {
     if slots.len() < strings.room() {
         return refused(gc, strings, Refusal::TableFull);
@@ -125,7 +133,12 @@ fn known(
     spare: &mut [u64],
 ) -> Interned
     requires { ⌜ Belong gc strings (now heap) (now slots) (now spare) × (hash ≡ hashOf (now s)) ⌝ }
-    ensures { λ r. ⌜ ((rest : State) (frames : List ℕ) → told (internedIn rest r) (lentOf frames (now (heap .exit)) (now (slots .exit)) (now (spare .exit))) ≡ hostCall (intern (now (s .entry))) (machineOf (holding rest gc strings) (lentOf frames (now (heap .entry)) (now (slots .entry)) (now (spare .entry)))) (known (now (s .entry)) (landOf (machineOf (holding rest gc strings) (lentOf frames (now (heap .entry)) (now (slots .entry)) (now (spare .entry))))) found)) ⌝ }
+    ensures { λ r. ⌜ ((rest : State) (frames : List ℕ)
+        → told (internedIn rest r) (lentOf frames (now (heap .exit)) (now (slots .exit)) (now (spare .exit)))
+        ≡ hostCall (intern (now (s .entry)))
+        (machineOf (holding rest gc strings) (lentOf frames (now (heap .entry)) (now (slots .entry)) (now (spare .entry))))
+        (known (now (s .entry)) (memoryOf
+        (machineOf (holding rest gc strings) (lentOf frames (now (heap .entry)) (now (slots .entry)) (now (spare .entry))))) found)) ⌝ }
 {
     match found {
         Probe::Found(v) => Interned {
@@ -145,7 +158,10 @@ pub fn intern(
     slots: &mut [u64],
     spare: &mut [u64],
 ) -> Interned
-    ensures { λ r. ⌜ ((rest : State) (frames : List ℕ) → told (internedIn rest r) (lentOf frames (now (heap .exit)) (now (slots .exit)) (now (spare .exit))) ≡ perform (host (intern (now (s .entry)))) (machineOf (holding rest gc strings) (lentOf frames (now (heap .entry)) (now (slots .entry)) (now (spare .entry))))) ⌝ }
+    ensures { λ r. ⌜ ((rest : State) (frames : List ℕ)
+        → told (internedIn rest r) (lentOf frames (now (heap .exit)) (now (slots .exit)) (now (spare .exit)))
+        ≡ perform (host (intern (now (s .entry))))
+        (machineOf (holding rest gc strings) (lentOf frames (now (heap .entry)) (now (slots .entry)) (now (spare .entry))))) ⌝ }
 {
     match check(gc, strings, heap, slots, spare) {
         Tested::Failed(why) => refused(gc, strings, why),
@@ -169,7 +185,10 @@ pub fn intern_small(
     slots: &mut [u64],
     spare: &mut [u64],
 ) -> Interned
-    ensures { λ r. ⌜ ((rest : State) (frames : List ℕ) → told (internedIn rest r) (lentOf frames (now (heap .exit)) (now (slots .exit)) (now (spare .exit))) ≡ perform (host (internSmall len word)) (machineOf (holding rest gc strings) (lentOf frames (now (heap .entry)) (now (slots .entry)) (now (spare .entry))))) ⌝ }
+    ensures { λ r. ⌜ ((rest : State) (frames : List ℕ)
+        → told (internedIn rest r) (lentOf frames (now (heap .exit)) (now (slots .exit)) (now (spare .exit)))
+        ≡ perform (host (internSmall len word))
+        (machineOf (holding rest gc strings) (lentOf frames (now (heap .entry)) (now (slots .entry)) (now (spare .entry))))) ⌝ }
 {
     match check(gc, strings, heap, slots, spare) {
         Tested::Failed(why) => refused(gc, strings, why),

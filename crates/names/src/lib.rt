@@ -31,7 +31,10 @@ pub fn intern(
     slots: &mut [u64],
     spare: &mut [u64],
 ) -> Called
-    ensures { λ r. ⌜ ((frames : List ℕ) → told r (lentOf frames (now (heap .exit)) (now (slots .exit)) (now (spare .exit))) ≡ perform (host (intern (now (s .entry)))) (machineOf state (lentOf frames (now (heap .entry)) (now (slots .entry)) (now (spare .entry))))) ⌝ }
+    ensures { λ r. ⌜ ((frames : List ℕ)
+        → told r (lentOf frames (now (heap .exit)) (now (slots .exit)) (now (spare .exit)))
+        ≡ perform (host (intern (now (s .entry))))
+        (machineOf state (lentOf frames (now (heap .entry)) (now (slots .entry)) (now (spare .entry))))) ⌝ }
 {
     let i = interner::intern(state.gc, state.strings, s, heap, slots, spare);
     interned(state, i)
@@ -45,7 +48,10 @@ pub fn intern_small(
     slots: &mut [u64],
     spare: &mut [u64],
 ) -> Called
-    ensures { λ r. ⌜ ((frames : List ℕ) → told r (lentOf frames (now (heap .exit)) (now (slots .exit)) (now (spare .exit))) ≡ perform (host (internSmall len word)) (machineOf state (lentOf frames (now (heap .entry)) (now (slots .entry)) (now (spare .entry))))) ⌝ }
+    ensures { λ r. ⌜ ((frames : List ℕ)
+        → told r (lentOf frames (now (heap .exit)) (now (slots .exit)) (now (spare .exit)))
+        ≡ perform (host (internSmall len word))
+        (machineOf state (lentOf frames (now (heap .entry)) (now (slots .entry)) (now (spare .entry))))) ⌝ }
 {
     let i = interner::intern_small(state.gc, state.strings, len, word, heap, slots, spare);
     interned(state, i)

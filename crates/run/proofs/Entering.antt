@@ -12,15 +12,16 @@ use lib.Dec.{leb, ltb, eqb}
 use borrow.Author.Tests.{leb-true, le-leb, lt-ltb, le-ltb, eqb-true, eqb-false, leb-false}
 use Rattle.anomaly.specs.Table.{isAnomaly}
 use Rattle.memory.proofs.Tests.{both}
-use Rattle.gc.specs.Lent.{Sound}
+use Rattle.gc.specs.Lent.{InHeap}
 use Rattle.gc.specs.Lent as Heap
 use Rattle.gc.proofs.Soundness as Soundness
 use Rattle.program.specs.Image.{Image, tablesOk, imageOk, imageTests, failing}
 use Rattle.vm.specs.declared.State.{State}
-use Rattle.run.specs.declared.Position.{Position}
+use Rattle.run.specs.declared.instruction.Position.{Position}
 use Rattle.vm.specs.Core.{Core, setPc, setFrames}
 use Rattle.vm.specs.Run.{Ran, go, root, entered, stored}
-use Rattle.vm.specs.Machine.{Lent, Machine, sizes, landOf, view, withPages, traced, withFrames, withRegs, laid, run, Called, ended, refused, ran, idle, runs, runLeaves, runCall, act, framesOk, heapOk, framesBelong, pagesBelong, tests, tried, perform}
+use Rattle.vm.specs.Machine.{Lent, Machine, sizes, memoryOf, view, withPages, traced, withFrames, withRegs, laid, run, Called, ended, refused}
+use Rattle.vm.specs.Machine.{ran, idle, runs, runLeaves, runCall, act, framesOk, heapOk, framesBelong, pagesBelong, testsBy, tests, tried, perform}
 use Rattle.vm.specs.Told.{lentOf, machineOf}
 use Rattle.vm.specs.Loaded.{Loaded}
 use Rattle.run.specs.Loop.{Going, Finished, finishes, finished, storedPc}
@@ -66,37 +67,44 @@ module _ (im : Image) (b : ℕ) (s : State) (frames heap : List ℕ) where
   sizes-fine = framesOk (length frames) && heapOk (s .gc .base) (length heap)
 
   pub any-slots : failing (tests (run im b) s (lent [] [])) ≡ none → (slots spare : List ℕ) → failing (tests (run im b) s (lent slots spare)) ≡ none
-  unfolding tests framesBelong pagesBelong
+  unfolding tests testsBy framesBelong pagesBelong
   any-slots f slots spare = f
 
   module _ (slots spare : List ℕ) where
     abbrev machine : Machine
     machine = machineOf s (lent slots spare)
 
-    pub run-refused : (k r : ℕ) → failing (imageTests sizes-fine im) ≡ some k → r ≡ k → record { answer = refused r; machine = machine } ≡ perform (run im b) machine
-    unfolding perform tests tried
+    pub run-refused : (k r : ℕ) → failing (imageTests sizes-fine im) ≡ some k → r ≡ k
+        → record { answer = refused r; machine = machine } ≡ perform (run im b) machine
+    unfolding perform tests testsBy tried
     run-refused k r f e = rw (failing-here (imageTests sizes-fine im) _ k f, tried, e) refl
 
-    run-9 : failing (imageTests sizes-fine im) ≡ none → (framesBelong (length (im .code)) s (lent slots spare) && pagesBelong s (lent slots spare)) ≡ false → record { answer = refused 9; machine = machine } ≡ perform (run im b) machine
-    unfolding perform tests tried failing
+    run-9 : failing (imageTests sizes-fine im) ≡ none
+        → (framesBelong (length (im .code)) s (lent slots spare) && pagesBelong s (lent slots spare)) ≡ false
+        → record { answer = refused 9; machine = machine } ≡ perform (run im b) machine
+    unfolding perform tests testsBy tried failing
     run-9 f e = rw (failing-later (imageTests sizes-fine im) _ f, e, failing, tried) refl
 
     pub run-passed : failing (tests (run im b) s (lent slots spare)) ≡ none → runCall im b machine ≡ perform (run im b) machine
     unfolding perform tried act
     run-passed f = rw (f, tried) refl
 
-  module _ (f : failing (imageTests sizes-fine im) ≡ none) {p q : Bool} (frames-say : (u : State) (l : Lent) → u .depth ≡ s .depth → l .frames ≡ frames → p ≡ framesBelong (length (im .code)) u l) (pages-say : q ≡ Heap.soundOf (s .gc) (length heap)) where
-    pub run-foreign : (p && q) ≡ false → (slots spare : List ℕ) → record { answer = refused 9; machine = machineOf s (lent slots spare) } ≡ perform (run im b) (machineOf s (lent slots spare))
+  module _ (f : failing (imageTests sizes-fine im) ≡ none) {p q : Bool}
+      (frames-say : (u : State) (l : Lent) → u .depth ≡ s .depth → l .frames ≡ frames → p ≡ framesBelong (length (im .code)) u l)
+      (pages-say : q ≡ Heap.soundOf (s .gc) (length heap)) where
+    pub run-foreign : (p && q) ≡ false → (slots spare : List ℕ)
+        → record { answer = refused 9; machine = machineOf s (lent slots spare) } ≡ perform (run im b) (machineOf s (lent slots spare))
     unfolding pagesBelong
     run-foreign e slots spare = run-9 slots spare f (rw (← (frames-say s (lent slots spare) refl refl), ← pages-say) e)
 
     pub run-fine : (p && q) ≡ true → failing (tests (run im b) s (lent [] [])) ≡ none
-    unfolding tests pagesBelong failing
+    unfolding tests testsBy pagesBelong failing
     run-fine e = failing-later (imageTests sizes-fine im) _ f ∙ rw (← (frames-say s (lent [] []) refl refl), ← pages-say, e, failing) refl
 
 -- ---- after the tests
 
-module _ (im : Image) (b : ℕ) (s : State) (frames heap slots spare : List ℕ) (passed : failing (tests (run im b) s (lentOf frames heap slots spare)) ≡ none) where
+module _ (im : Image) (b : ℕ) (s : State) (frames heap slots spare : List ℕ)
+    (passed : failing (tests (run im b) s (lentOf frames heap slots spare)) ≡ none) where
   abbrev n : ℕ
   n = length (im .code)
 
@@ -128,7 +136,7 @@ module _ (im : Image) (b : ℕ) (s : State) (frames heap slots spare : List ℕ)
   unfolding framesBelong
   deep = leb-true _ _ (both (leb (s .depth) (length frames)) _ (all-passed im b m passed .frames) .0)
 
-  sound : Sound (s .gc) heap
+  sound : InHeap (s .gc) heap
   unfolding pagesBelong
   sound = Soundness.sound (s .gc) heap (heap-low _ _ (lent-fine .1)) (all-passed im b m passed .pages)
 
@@ -136,7 +144,7 @@ module _ (im : Image) (b : ℕ) (s : State) (frames heap slots spare : List ℕ)
   deep-opened = rw length-set deep
 
   view-opened : view m₁ ≡ entered n (view m)
-  unfolding view landOf entered setFrames
+  unfolding view memoryOf entered setFrames
   view-opened = rw (take-first (s .depth) frames (root n)) refl
 
   sizes-opened : sizes (m₁ .lent) ≡ sizes (m .lent)
@@ -175,13 +183,17 @@ module _ (im : Image) (b : ℕ) (s : State) (frames heap slots spare : List ℕ)
   unfolding view
   beyond k h = le-ltb (s .pc) k h
 
-  idles : _≡_ {A = Called} (record { answer = ended 0 (s .pc) 0; machine = m₁ }) (record { answer = ran n (view m .pc) (idle (entered n (view m))) .answer; machine = runLeaves m (ran n (view m .pc) (idle (entered n (view m)))) })
+  idles : _≡_ {A = Called} (record { answer = ended 0 (s .pc) 0; machine = m₁ })
+      (record {
+        answer = ran n (view m .pc) (idle (entered n (view m))) .answer;
+        machine = runLeaves m (ran n (view m .pc) (idle (entered n (view m))));
+      })
   unfolding runLeaves ran idle stored
   idles = rw frame-alone (unfold entered setFrames view in refl)
 
-  pub run-past : 0 < n → n ≤ s .pc → record { answer = ended 0 (s .pc) 0; machine = m₁ } ≡ runCall im b m
+  past : 0 < n → n ≤ s .pc → record { answer = ended 0 (s .pc) 0; machine = m₁ } ≡ runCall im b m
   unfolding runCall
-  run-past words h = by n refl
+  past words h = by n refl
     where
       by : (k : ℕ) → n ≡ k → _≡_ {A = Called} (record { answer = ended 0 (s .pc) 0; machine = m₁ }) (called k)
       by zero q = absurd (omega arith)
@@ -191,26 +203,38 @@ module _ (im : Image) (b : ℕ) (s : State) (frames heap slots spare : List ℕ)
 
   -- the registers and the stored pc of a run that left this machine
   abbrev pub settled : Finished → Called
-  settled x = record { answer = ended (x .ending) (x .machine .state .pc) (x .steps); machine = withRegs (x .machine .state .regs) (storedPc (x .ending) (s .pc) (x .machine .state .pc)) (x .machine) }
+  settled x = record {
+    answer = ended (x .ending) (x .machine .state .pc) (x .steps);
+    machine = withRegs (x .machine .state .regs) (storedPc (x .ending) (s .pc) (x .machine .state .pc)) (x .machine);
+  }
 
-  laid-stored : (t : Bool) (trail : List (List ℕ)) (c : Core) → laid trail (elim t [ true ↦ c | false ↦ setPc (s .pc) c ]) m₁ ≡ withRegs (c .regs) (cond t (c .pc) (s .pc)) (laid trail c m₁)
+  laid-stored : (t : Bool) (trail : List (List ℕ)) (c : Core)
+      → laid trail (elim t [ true ↦ c | false ↦ setPc (s .pc) c ]) m₁ ≡ withRegs (c .regs) (cond t (c .pc) (s .pc)) (laid trail c m₁)
   unfolding laid withRegs withFrames withPages setPc
   laid-stored true trail c = refl
   laid-stored false trail c = refl
 
   settles : (r : Ran) → settled (finishes 0 m₁ r) ≡ record { answer = ran n (s .pc) r .answer; machine = runLeaves m (ran n (s .pc) r) }
   unfolding finishes ran runLeaves stored
-  settles r = rw (laid-opened (r .trail) (stored (r .ending) (s .pc) (r .core)), laid-stored (eqb (r .ending) 0 || eqb (r .ending) 5) (r .trail) (r .core)) (unfold laid withRegs in rw (zero-add (r .steps)) refl)
+  settles r = rw (
+    laid-opened (r .trail) (stored (r .ending) (s .pc) (r .core)),
+    laid-stored (eqb (r .ending) 0 || eqb (r .ending) 5) (r .trail) (r .core),
+  ) (unfold laid withRegs in rw (zero-add (r .steps)) refl)
 
-  pub run-goes : s .pc < n → (x : Finished) → x ≡ finished im b 0 m₁ → settled x ≡ runCall im b m
+  goes : s .pc < n → (x : Finished) → x ≡ finished im b 0 m₁ → settled x ≡ runCall im b m
   unfolding runCall finished view
-  run-goes h x e = rw e (by n refl)
+  goes h x e = rw e (by n refl)
     where
       by : (k : ℕ) → n ≡ k → settled (finishes 0 m₁ (go (sizes (m₁ .lent)) im b (view m₁))) ≡ called k
       by zero q = absurd (omega arith)
       by (suc k) q =
           let inside : ltb (s .pc) (suc k) ≡ true = lt-ltb (s .pc) (suc k) (omega arith) in
-          rw (runs-go (sizes (m .lent)) im b k (view m) inside, ← q, sizes-opened, view-opened) (settles (go (sizes (m .lent)) im b (entered n (view m))))
+          rw (
+            runs-go (sizes (m .lent)) im b k (view m) inside,
+            ← q,
+            sizes-opened,
+            view-opened,
+          ) (settles (go (sizes (m .lent)) im b (entered n (view m))))
 
   -- ---- what the loop asks for
 
@@ -222,7 +246,13 @@ module _ (im : Image) (b : ℕ) (s : State) (frames heap slots spare : List ℕ)
       let tables = both (leb (length (im .globals)) 4096) _ rest .1 in
       let switches = both (tablesOk (im .switches)) _ tables in
       let lookups = both (tablesOk (im .lookups)) _ (switches .1) in
-      record { size = code-size im (p .image); switches = switches .0; lookups = lookups .0; defaults = eqb-true _ _ (lookups .1); checks = checks im b m passed words }
+      record {
+        size = code-size im (p .image);
+        switches = switches .0;
+        lookups = lookups .0;
+        defaults = eqb-true _ _ (lookups .1);
+        checks = checks im b m passed words;
+      }
 
   inside-opened : s .pc < n → Inside n (entered n (view m))
   inside-opened h = by n refl
@@ -231,16 +261,35 @@ module _ (im : Image) (b : ℕ) (s : State) (frames heap slots spare : List ℕ)
       by zero q = absurd (omega arith)
       by (suc k) q = rw (← q) at (from-inside im b m passed k q (omega arith))
 
-  pub going : s .pc < n → Going n at opened heap
+  inside : s .pc < n → Going n at opened heap
   unfolding entered setFrames view
-  going h =
+  inside h =
       let i = inside-opened h in
       record { here = h; returns = rw (take-first (s .depth) frames (root n)) (i .returns); deep = deep-opened; sound = sound }
 
-  pub run-listed : s .pc < n → (x : Finished) → x ≡ finished im b 0 m₁ → ((eqb (x .ending) 0 || eqb (x .ending) 5) || isAnomaly (x .ending)) ≡ true
+  listed : s .pc < n → (x : Finished) → x ≡ finished im b 0 m₁ → ((eqb (x .ending) 0 || eqb (x .ending) 5) || isAnomaly (x .ending)) ≡ true
   unfolding finished finishes
-  run-listed h x e =
+  listed h x e =
       let c = entered n (view m) in
       let fit = rw view-opened at (view-fits m₁ (view m₁) refl refl) in
       let found = go-listed (sizes (m₁ .lent)) im (checks im b m passed (omega arith)) b c fit (inside-opened h) in
       rw (e, view-opened) (listed-known b _ _ found)
+
+  -- ---- the same, of what the code has written to frame 0
+
+  module _ {r : ℕ} (written : r ≡ root n) where
+    abbrev entry : Machine
+    entry = machineOf s (lentOf (set frames 0 r) heap slots spare)
+
+    pub run-past : 0 < n → n ≤ s .pc → record { answer = ended 0 (s .pc) 0; machine = entry } ≡ runCall im b m
+    run-past = rw written past
+
+    pub run-goes : s .pc < n → (x : Finished) → x ≡ finished im b 0 entry → settled x ≡ runCall im b m
+    run-goes = rw written goes
+
+    pub going : s .pc < n → Going n at (set frames 0 r) heap
+    going = rw written inside
+
+    pub run-listed : s .pc < n → (x : Finished) → x ≡ finished im b 0 entry
+        → ((eqb (x .ending) 0 || eqb (x .ending) 5) || isAnomaly (x .ending)) ≡ true
+    run-listed = rw written listed

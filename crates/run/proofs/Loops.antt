@@ -12,16 +12,16 @@ use borrow.Author.Tests.{ne-eqb, lt-ltb}
 use Rattle.memory.proofs.Over.{length-over, take-over, over-over}
 use Rattle.anomaly.specs.Table.{isAnomaly}
 use Rattle.string.specs.declared.table.StrTable.{StrTable}
-use Rattle.gc.specs.Lent.{pagesOf, numbersOf, Sound}
-use Rattle.gc.proofs.Blocks.{pushed-is, laid-back}
+use Rattle.gc.specs.Lent.{pagesOf, numbersOf, InHeap}
+use Rattle.gc.proofs.Blocks.{pushed-is, pages-of-over}
 use Rattle.op.specs.Decode.{decodeOf}
 use Rattle.program.specs.declared.Effect.{Effect}
 use Rattle.program.specs.Image.{Image}
 use Rattle.program.specs.Effect.{wordEffect}
-use Rattle.run.specs.declared.Position.{Position}
+use Rattle.run.specs.declared.instruction.Position.{Position}
 use Rattle.vm.specs.Core.{Core, used, _⊑_}
 use Rattle.vm.specs.Run.{Step, next, halted, stop, fetched, step, Ran, after, go}
-use Rattle.vm.specs.Machine.{Lent, Machine, sizes, landOf, view, withPages, traced, withFrames, withRegs, laid}
+use Rattle.vm.specs.Machine.{Lent, Machine, sizes, memoryOf, view, withPages, traced, withFrames, withRegs, laid}
 use Rattle.vm.specs.Told.{lentOf}
 use Rattle.vm.specs.Loaded.{Loaded, Writable}
 use Rattle.run.specs.Loop.{machineAt, Going, goes, halts, stops, Turned, turned, turn, Finished, finishes, finished}
@@ -41,12 +41,12 @@ anomaly-left e n h = rw (ne-eqb e 0 (n .0 .1), ne-eqb e 5 (n .1)) at h
 abbrev going-in : ℕ → Machine → Type 0
 going-in n m = Going n (record { pc = m .state .pc; depth = m .state .depth; gc = m .state .gc }) (m .lent .frames) (m .lent .heap)
 
-module _ (m : Machine) (d : Core) (fit : used d ⊑ sizes (m .lent)) (kept : Kept (view m .land) (d .land)) where
+module _ (m : Machine) (d : Core) (fit : used d ⊑ sizes (m .lent)) (kept : Kept (view m .memory) (d .memory)) where
   frames-fit : length (d .frames) ≤ length (m .lent .frames)
   unfolding used sizes
   frames-fit = fit .frames
 
-  heap-fits : length (d .land .pages .bytes) ≤ length (m .lent .heap)
+  heap-fits : length (d .memory .pages .bytes) ≤ length (m .lent .heap)
   unfolding used sizes
   heap-fits = fit .heap
 
@@ -55,14 +55,19 @@ module _ (m : Machine) (d : Core) (fit : used d ⊑ sizes (m .lent)) (kept : Kep
   sizes-laid = rw (length-over, length-over) refl
 
   view-laid : view (laid [] d m) ≡ d
-  unfolding view landOf laid withRegs withFrames withPages traced
+  unfolding view memoryOf laid withRegs withFrames withPages traced
   view-laid =
-      rw (take-over (d .frames) (m .lent .frames) frames-fit, laid-back (d .land .pages) (m .lent .heap) heap-fits, ← (kept .slots), ← (kept .names)) refl
+      rw (
+        take-over (d .frames) (m .lent .frames) frames-fit,
+        pages-of-over (d .memory .pages) (m .lent .heap) heap-fits,
+        ← (kept .slots),
+        ← (kept .names),
+      ) refl
 
-  going-laid : (n : ℕ) → Inside n d → Ends (d .land .pages) → Sound (m .state .gc) (m .lent .heap) → going-in n (laid [] d m)
-  unfolding laid withRegs withFrames withPages traced numbersOf view landOf pagesOf
+  going-laid : (n : ℕ) → Inside n d → Ends (d .memory .pages) → InHeap (m .state .gc) (m .lent .heap) → going-in n (laid [] d m)
+  unfolding laid withRegs withFrames withPages traced numbersOf view memoryOf pagesOf
   going-laid n i e s =
-      let base : d .land .pages .base ≡ m .state .gc .base = kept .base in
+      let base : d .memory .pages .base ≡ m .state .gc .base = kept .base in
       let frames = frames-fit in
       let heap = heap-fits in
       let low = s .low in
@@ -74,13 +79,15 @@ module _ (m : Machine) (d : Core) (fit : used d ⊑ sizes (m .lent)) (kept : Kep
       }
 
   -- what comes after d, over the machine that d is laid on
-  finishes-laid : (n : ℕ) (r : Ran) → length (d .land .pages .bytes) ≤ length (r .core .land .pages .bytes) → finishes n m (after d r) ≡ finishes (suc n) (laid [] d m) r
+  finishes-laid : (n : ℕ) (r : Ran) → length (d .memory .pages .bytes) ≤ length (r .core .memory .pages .bytes)
+      → finishes n m (after d r) ≡ finishes (suc n) (laid [] d m) r
   unfolding finishes after laid withRegs withFrames withPages traced
   finishes-laid n r more =
       let steps : n + suc (r .steps) ≡ suc n + r .steps = omega arith in
-      rw (steps, over-over (r .core .land .pages .bytes) (d .land .pages .bytes) (m .lent .heap) more) refl
+      rw (steps, over-over (r .core .memory .pages .bytes) (d .memory .pages .bytes) (m .lent .heap) more) refl
 
-  finished-laid : (im : Image) (b n : ℕ) → step (sizes (m .lent)) im (view m) ≡ next d → Ends (d .land .pages) → finished im (suc b) n m ≡ finished im b (suc n) (laid [] d m)
+  finished-laid : (im : Image) (b n : ℕ) → step (sizes (m .lent)) im (view m) ≡ next d → Ends (d .memory .pages)
+      → finished im (suc b) n m ≡ finished im b (suc n) (laid [] d m)
   unfolding finished
   finished-laid im b n e ends =
       rw (go-next (sizes (m .lent)) im b (view m) d e, sizes-laid, view-laid)
@@ -88,7 +95,8 @@ module _ (m : Machine) (d : Core) (fit : used d ⊑ sizes (m .lent)) (kept : Kep
 
 -- ---- the ways of a turn
 
-module _ (t : StrTable) (im : Image) (at : Position) (regs frames heap slots spare : List ℕ) (ok : Loaded im) (g : Going (length (im .code)) at frames heap) where
+module _ (t : StrTable) (im : Image) (at : Position) (regs frames heap slots spare : List ℕ) (ok : Loaded im)
+    (g : Going (length (im .code)) at frames heap) where
   abbrev l : Lent
   l = lentOf frames heap slots spare
 
@@ -106,8 +114,8 @@ module _ (t : StrTable) (im : Image) (at : Position) (regs frames heap slots spa
   unfolding view
   inside = record { here = g .here; returns = g .returns }
 
-  ends : Ends (view m .land .pages)
-  unfolding view landOf pagesOf
+  ends : Ends (view m .memory .pages)
+  unfolding view memoryOf pagesOf
   ends = rw (pushed-is (at .gc) heap (g .sound)) (g .sound .in-pages)
 
   turn-is : turn here m ≡ turned m (step (sizes l) im (view m))
@@ -123,7 +131,8 @@ module _ (t : StrTable) (im : Image) (at : Position) (regs frames heap slots spa
     pub left : finished im (suc b) n m ≡ finished im b (suc n) m′
     pub going : going-in (length (im .code)) m′
 
-  on-by : (b n : ℕ) (m′ : Machine) (x : Step) → step (sizes l) im (view m) ≡ x → GoodStep (sizes l) (view m .land) x → StepOk (length (im .code)) x → GrowsStep (view m .land .pages) x
+  on-by : (b n : ℕ) (m′ : Machine) (x : Step) → step (sizes l) im (view m) ≡ x → GoodStep (sizes l) (view m .memory) x
+      → StepOk (length (im .code)) x → GrowsStep (view m .memory .pages) x
       → record { how = goes; machine = m′ } ≡ turned m x → On b n m′
   unfolding turned
   on-by b n m′ (next d) p good o grows e =
@@ -139,18 +148,22 @@ module _ (t : StrTable) (im : Image) (at : Position) (regs frames heap slots spa
 
   pub to-next : (b n : ℕ) (m′ : Machine) → record { how = goes; machine = m′ } ≡ turn here m → On b n m′
   to-next b n m′ e =
-      on-by b n m′ (step (sizes l) im (view m)) refl (step-good (sizes l) im (view m)) (step-ok (sizes l) im (view m) (ok .checks) fit inside) (step-grows (sizes l) im (view m) ends) (e ∙ turn-is)
+      on-by b n m′ (step (sizes l) im (view m)) refl (step-good (sizes l) im (view m))
+      (step-ok (sizes l) im (view m) (ok .checks) fit inside) (step-grows (sizes l) im (view m) ends) (e ∙ turn-is)
 
-  halt-by : (b n : ℕ) (m′ : Machine) (x : Step) → step (sizes l) im (view m) ≡ x → record { how = halts; machine = m′ } ≡ turned m x → record { ending = 0; steps = n + 1; machine = m′ } ≡ finished im (suc b) n m
+  halt-by : (b n : ℕ) (m′ : Machine) (x : Step) → step (sizes l) im (view m) ≡ x → record { how = halts; machine = m′ } ≡ turned m x
+      → record { ending = 0; steps = n + 1; machine = m′ } ≡ finished im (suc b) n m
   unfolding turned finished finishes
   halt-by b n m′ (next d) p e = let z : _≡_ {A = ℕ} 0 1 = cc (ap (λ (z : Turned). z .how) e) in absurd (omega arith)
   halt-by b n m′ halted p e = rw (go-halted (sizes l) im b (view m) p, as-it-was, ap (λ (z : Turned). z .machine) e) refl
   halt-by b n m′ (stop k) p e = let z : _≡_ {A = ℕ} 0 1 = cc (ap (λ (z : Turned). z .how) e) in absurd (omega arith)
 
-  pub to-halt : (b n : ℕ) (m′ : Machine) → record { how = halts; machine = m′ } ≡ turn here m → record { ending = 0; steps = n + 1; machine = m′ } ≡ finished im (suc b) n m
+  pub to-halt : (b n : ℕ) (m′ : Machine) → record { how = halts; machine = m′ } ≡ turn here m
+      → record { ending = 0; steps = n + 1; machine = m′ } ≡ finished im (suc b) n m
   to-halt b n m′ e = halt-by b n m′ (step (sizes l) im (view m)) refl (e ∙ turn-is)
 
-  stop-by : (b n k : ℕ) (m′ : Machine) (x : Step) → step (sizes l) im (view m) ≡ x → record { how = stops k; machine = m′ } ≡ turned m x → record { ending = k; steps = n; machine = m′ } ≡ finished im (suc b) n m
+  stop-by : (b n k : ℕ) (m′ : Machine) (x : Step) → step (sizes l) im (view m) ≡ x → record { how = stops k; machine = m′ } ≡ turned m x
+      → record { ending = k; steps = n; machine = m′ } ≡ finished im (suc b) n m
   unfolding turned finished finishes
   stop-by b n k m′ (next d) p e = let z : _≡_ {A = ℕ} 0 1 = cc (ap (λ (z : Turned). z .how) e) in absurd (omega arith)
   stop-by b n k m′ halted p e = let z : _≡_ {A = ℕ} 0 1 = cc (ap (λ (z : Turned). z .how) e) in absurd (omega arith)
@@ -158,7 +171,8 @@ module _ (t : StrTable) (im : Image) (at : Position) (regs frames heap slots spa
       let number : k ≡ j = cc (ap (λ (z : Turned). z .how) e) in
       rw (go-stop (sizes l) im b (view m) j p, as-it-was, ap (λ (z : Turned). z .machine) e, number, add-zero n) refl
 
-  pub to-stop : (b n k : ℕ) (m′ : Machine) → record { how = stops k; machine = m′ } ≡ turn here m → record { ending = k; steps = n; machine = m′ } ≡ finished im (suc b) n m
+  pub to-stop : (b n k : ℕ) (m′ : Machine) → record { how = stops k; machine = m′ } ≡ turn here m
+      → record { ending = k; steps = n; machine = m′ } ≡ finished im (suc b) n m
   to-stop b n k m′ e = stop-by b n k m′ (step (sizes l) im (view m)) refl (e ∙ turn-is)
 
   pub to-budget : (n : ℕ) → record { ending = 5; steps = n; machine = m } ≡ finished im 0 n m
@@ -171,18 +185,28 @@ module _ (t : StrTable) (im : Image) (at : Position) (regs frames heap slots spa
 -- ---- the loop's invariant
 
 -- where the loop has come to: what is left of the run from here is what the whole run was
-pub record Running (im : Image) (budget : ℕ) (regs₀ frames₀ heap₀ : List ℕ) (at₀ : Position) (regs frames heap : List ℕ) (at : Position) (steps : ℕ) : Type 0 where
+pub record Running (im : Image) (budget : ℕ) (regs₀ frames₀ heap₀ : List ℕ) (at₀ : Position) (regs frames heap : List ℕ) (at : Position)
+    (steps : ℕ) : Type 0 where
   pub left : (t : StrTable) (slots spare : List ℕ)
-      → finished im (budget - steps) steps (machineAt t at regs (lentOf frames heap slots spare)) ≡ finished im budget 0 (machineAt t at₀ regs₀ (lentOf frames₀ heap₀ slots spare))
+      → finished im (budget - steps) steps (machineAt t at regs (lentOf frames heap slots spare))
+      ≡ finished im budget 0 (machineAt t at₀ regs₀ (lentOf frames₀ heap₀ slots spare))
   pub going : Going (length (im .code)) at frames heap
   pub within : steps ≤ budget
   pub as-deep : length frames ≡ length frames₀
   pub as-long : length heap ≡ length heap₀
 
-pub running-first : (im : Image) (budget : ℕ) (regs frames heap : List ℕ) (at : Position) → Going (length (im .code)) at frames heap → Running im budget regs frames heap at regs frames heap at 0
-running-first im budget regs frames heap at g = record { left = λ t slots spare. ap (λ (b : ℕ). finished im b 0 (machineAt t at regs (lentOf frames heap slots spare))) (sub-zero budget); going = g; within = omega arith; as-deep = refl; as-long = refl }
+pub running-first : (im : Image) (budget : ℕ) (regs frames heap : List ℕ) (at : Position) → Going (length (im .code)) at frames heap
+    → Running im budget regs frames heap at regs frames heap at 0
+running-first im budget regs frames heap at g = record {
+  left = λ t slots spare. ap (λ (b : ℕ). finished im b 0 (machineAt t at regs (lentOf frames heap slots spare))) (sub-zero budget);
+  going = g;
+  within = omega arith;
+  as-deep = refl;
+  as-long = refl;
+}
 
-module _ (im : Image) (ok : Loaded im) (budget : ℕ) (regs₀ frames₀ heap₀ : List ℕ) (at₀ : Position) (regs frames heap : List ℕ) (at : Position) (steps : ℕ)
+module _ (im : Image) (ok : Loaded im) (budget : ℕ) (regs₀ frames₀ heap₀ : List ℕ) (at₀ : Position) (regs frames heap : List ℕ)
+    (at : Position) (steps : ℕ)
     (r : Running im budget regs₀ frames₀ heap₀ at₀ regs frames heap at steps)
   where
     abbrev now-at : StrTable → List ℕ → List ℕ → Machine
@@ -201,7 +225,8 @@ module _ (im : Image) (ok : Loaded im) (budget : ℕ) (regs₀ frames₀ heap₀
           rw one (r .left t slots spare)
 
       pub running-next : (to : Position) (regs′ frames′ heap′ : List ℕ)
-          → ((t : StrTable) (slots spare : List ℕ) → record { how = goes; machine = machineAt t to regs′ (lentOf frames′ heap′ slots spare) } ≡ turn asks (now-at t slots spare))
+          → ((t : StrTable) (slots spare : List ℕ)
+          → record { how = goes; machine = machineAt t to regs′ (lentOf frames′ heap′ slots spare) } ≡ turn asks (now-at t slots spare))
           → length frames′ ≡ length frames → length heap′ ≡ length heap → Running im budget regs₀ frames₀ heap₀ at₀ regs′ frames′ heap′ to (steps + 1)
       running-next to regs′ frames′ heap′ e deep long =
           record {
@@ -212,18 +237,24 @@ module _ (im : Image) (ok : Loaded im) (budget : ℕ) (regs₀ frames₀ heap₀
             as-long = long ∙ r .as-long;
           }
         where
-          on : (t : StrTable) (slots spare : List ℕ) → On t im at regs frames heap slots spare ok (r .going) (budget - suc steps) steps (machineAt t to regs′ (lentOf frames′ heap′ slots spare))
+          on : (t : StrTable) (slots spare : List ℕ)
+              → On t im at regs frames heap slots spare ok (r .going) (budget - suc steps) steps
+              (machineAt t to regs′ (lentOf frames′ heap′ slots spare))
           on t slots spare = to-next t im at regs frames heap slots spare ok (r .going) (budget - suc steps) steps _ (e t slots spare)
 
       pub halted-here : (t : StrTable) (slots spare : List ℕ) (m′ : Machine) → record { how = halts; machine = m′ } ≡ turn asks (now-at t slots spare)
           → record { ending = 0; steps = steps + 1; machine = m′ } ≡ whole t slots spare
-      halted-here t slots spare m′ e = to-halt t im at regs frames heap slots spare ok (r .going) (budget - suc steps) steps m′ e ∙ left-more t slots spare
+      halted-here t slots spare m′ e = to-halt t im at regs frames heap slots spare ok (r .going) (budget - suc steps) steps m′ e
+          ∙ left-more t slots spare
 
-      pub stopped-here : (t : StrTable) (slots spare : List ℕ) (k : ℕ) (m′ : Machine) → record { how = stops k; machine = m′ } ≡ turn asks (now-at t slots spare)
+      pub stopped-here : (t : StrTable) (slots spare : List ℕ) (k : ℕ) (m′ : Machine)
+          → record { how = stops k; machine = m′ } ≡ turn asks (now-at t slots spare)
           → record { ending = k; steps = steps; machine = m′ } ≡ whole t slots spare
-      stopped-here t slots spare k m′ e = to-stop t im at regs frames heap slots spare ok (r .going) (budget - suc steps) steps k m′ e ∙ left-more t slots spare
+      stopped-here t slots spare k m′ e = to-stop t im at regs frames heap slots spare ok (r .going) (budget - suc steps) steps k m′ e
+          ∙ left-more t slots spare
 
-    pub spent-here : budget ≤ steps → (t : StrTable) (slots spare : List ℕ) → record { ending = 5; steps = steps; machine = now-at t slots spare } ≡ whole t slots spare
+    pub spent-here : budget ≤ steps → (t : StrTable) (slots spare : List ℕ)
+        → record { ending = 5; steps = steps; machine = now-at t slots spare } ≡ whole t slots spare
     spent-here h t slots spare =
         let none-left : budget - steps ≡ 0 = let w = r .within in omega arith in
         to-budget t im at regs frames heap slots spare ok (r .going) steps ∙ (rw none-left at (r .left t slots spare))

@@ -22,14 +22,14 @@ use Rattle.gc.specs.declared.Gc.{Gc}
 use Rattle.gc.specs.declared.Alloc.{Alloc}
 use Rattle.gc.specs.declared.Alloc.the-variants as alloc
 use Rattle.gc.specs.Pages.{Pages, Block, allocated}
-use Rattle.gc.specs.Lent.{pageSize, pagesOf, numbersOf, fits, outcome, allocOf, Sound}
+use Rattle.gc.specs.Lent.{pageSize, pagesOf, numbersOf, fits, outcome, allocOf, InHeap}
 use Rattle.gc.proofs.Blocks.{pushed-is}
 use Rattle.program.specs.declared.Effect.the-variants as effect
-use Rattle.run.specs.declared.Position.{Position}
-use Rattle.run.specs.declared.Place.{Place}
-use Rattle.vm.specs.Core.{Core, used, lacking, short, setReg, setPc, setFrames, setLand, setPages, setBytes}
-use Rattle.vm.specs.Run.{next, provided, forward, addressed, loaded, stored8, returned, took, apply, unless, limited}
-use Rattle.vm.specs.Machine.{Lent, Machine, sizes, landOf, view, withPages, traced, withFrames, withRegs, laid}
+use Rattle.run.specs.declared.instruction.Position.{Position}
+use Rattle.run.specs.declared.instruction.Place.{Place}
+use Rattle.vm.specs.Core.{Core, used, lacking, short, setReg, setPc, setFrames, setMemory, setPages, setBytes}
+use Rattle.vm.specs.Run.{next, provided, forward, addressed, loaded, stored8, returned, blockTo, apply, unless, limited}
+use Rattle.vm.specs.Machine.{Lent, Machine, sizes, memoryOf, view, withPages, traced, withFrames, withRegs, laid}
 use Rattle.vm.specs.Told.{lentOf}
 use Rattle.run.specs.Loop.{machineAt, placeIn, goes, halts, stops, Turned, turned, turn}
 use Rattle.vm.proofs.Fits.{take-fits, view-fits}
@@ -68,7 +68,8 @@ outside-by true j e = let z : _≡_ {A = ℕ} 0 1 = cc in absurd (omega arith)
 outside-by false j e = refl
 
 pub one-high : (a b : ℕ) → (leb (2 ^ 48) a || leb (2 ^ 48) b) ≡ true → 2 ^ 48 ≤ a + b
-one-high a b h = ⊎-elim (λ p. omega (arith, leb-true (2 ^ 48) a p)) (λ p. omega (arith, leb-true (2 ^ 48) b p)) (either (leb (2 ^ 48) a) (leb (2 ^ 48) b) h)
+one-high a b h = ⊎-elim (λ p. omega (arith, leb-true (2 ^ 48) a p)) (λ p. omega (arith, leb-true (2 ^ 48) b p))
+    (either (leb (2 ^ 48) a) (leb (2 ^ 48) b) h)
 
 pub both-low : (a b : ℕ) → (leb (2 ^ 48) a || leb (2 ^ 48) b) ≡ false → (a < 2 ^ 48) × (b < 2 ^ 48)
 both-low a b h = by (leb (2 ^ 48) a) (leb (2 ^ 48) b) refl refl h
@@ -109,7 +110,8 @@ module _ (g : Gc) (a : ℕ) where
     unfolding placeIn reaches
     place-past h low = no (eqb (a % 8) 0) (leb (g .base) a) refl
       where
-        no : (p q : Bool) → leb (g .base) a ≡ q → Place.Outside ≡ cond (p && (q && leb (a - g .base + 8) (g .pushed))) (Place.At (a - g .base)) Place.Outside
+        no : (p q : Bool) → leb (g .base) a ≡ q
+            → Place.Outside ≡ cond (p && (q && leb (a - g .base + 8) (g .pushed))) (Place.At (a - g .base)) Place.Outside
         no true true e = let k = leb-true (g .base) a e in rw (lt-leb (a - g .base + 8) (g .pushed) (omega arith)) refl
         no true false e = refl
         no false q e = refl
@@ -122,17 +124,32 @@ module _ (g : Gc) (a : ℕ) where
       unfolding placeIn reaches
       place-by p true e f =
           let k = ltb-true (g .pushed) (at + 8) f in
-          rw (e, is-at .0, le-leb (g .base) a (is-at .1), lt-leb (at + 8) (g .pushed) k) (elim p as (λ (b : Bool). cond (not b || true) Place.Outside (Place.At at) ≡ cond (b && false) (Place.At at) Place.Outside) [ true ↦ refl | false ↦ refl ])
+          rw (
+            e,
+            is-at .0,
+            le-leb (g .base) a (is-at .1),
+            lt-leb (at + 8) (g .pushed) k,
+          )
+          (elim p as (λ (b : Bool). cond (not b || true) Place.Outside (Place.At at) ≡ cond (b && false) (Place.At at) Place.Outside)
+          [ true ↦ refl | false ↦ refl ])
       place-by p false e f =
           let k = ltb-false (g .pushed) (at + 8) f in
-          rw (e, is-at .0, le-leb (g .base) a (is-at .1), le-leb (at + 8) (g .pushed) k) (elim p as (λ (b : Bool). cond (not b || false) Place.Outside (Place.At at) ≡ cond (b && true) (Place.At at) Place.Outside) [ true ↦ refl | false ↦ refl ])
+          rw (
+            e,
+            is-at .0,
+            le-leb (g .base) a (is-at .1),
+            le-leb (at + 8) (g .pushed) k,
+          )
+          (elim p as (λ (b : Bool). cond (not b || false) Place.Outside (Place.At at) ≡ cond (b && true) (Place.At at) Place.Outside)
+          [ true ↦ refl | false ↦ refl ])
 
       pub place-is : (t : Bool) → (not (eqb (a % 8) 0) || ltb (g .pushed) (at + 8)) ≡ t → cond t Place.Outside (Place.At at) ≡ placeIn g a
       place-is t e = rw (← e) (place-by _ _ refl refl)
 
 -- ---- instructions
 
-module _ (t : StrTable) (at : Position) (regs frames heap slots spare : List ℕ) (deep : at .depth ≤ length frames) (sound : Sound (at .gc) heap) where
+module _ (t : StrTable) (at : Position) (regs frames heap slots spare : List ℕ) (deep : at .depth ≤ length frames)
+    (sound : InHeap (at .gc) heap) where
   abbrev l : Lent
   l = lentOf frames heap slots spare
 
@@ -146,14 +163,17 @@ module _ (t : StrTable) (at : Position) (regs frames heap slots spare : List ℕ
   bytes-are = pushed-is (at .gc) heap sound
 
   -- pages and frames laid back as they were
-  pub laid-same : (r : List ℕ) (p : ℕ) → laid [] (record { regs = r; pc = p; frames = view m .frames; land = view m .land }) m ≡ machineAt t (moved at p) r l
-  unfolding laid withRegs withFrames withPages traced view landOf pagesOf numbersOf
+  pub laid-same : (r : List ℕ) (p : ℕ)
+      → laid [] (record { regs = r; pc = p; frames = view m .frames; memory = view m .memory }) m ≡ machineAt t (moved at p) r l
+  unfolding laid withRegs withFrames withPages traced view memoryOf pagesOf numbersOf
   laid-same r p = rw (over-take, over-take, bytes-are, depth-is) refl
 
   -- an instruction that changes registers and pc alone
-  goes-on : (r : List ℕ) (p : ℕ) → turned m (limited (sizes l) (next (record { regs = r; pc = p; frames = view m .frames; land = view m .land }))) ≡ went (machineAt t (moved at p) r l)
+  goes-on : (r : List ℕ) (p : ℕ)
+      → turned m (limited (sizes l) (next (record { regs = r; pc = p; frames = view m .frames; memory = view m .memory })))
+      ≡ went (machineAt t (moved at p) r l)
   unfolding turned limited unless
-  goes-on r p = rw (view-fits m (record { regs = r; pc = p; frames = view m .frames; land = view m .land }) refl refl, laid-same r p) refl
+  goes-on r p = rw (view-fits m (record { regs = r; pc = p; frames = view m .frames; memory = view m .memory }) refl refl, laid-same r p) refl
 
   pub turn-set : (dst v : ℕ) → turn (effect.Set dst v) m ≡ went (machineAt t (moved at (at .pc + 1)) (set regs dst v) l)
   unfolding turn apply forward setPc setReg view
@@ -183,8 +203,9 @@ module _ (t : StrTable) (at : Position) (regs frames heap slots spare : List ℕ
   pushed-length : length pushed-frames ≡ at .depth + 1
   pushed-length = length-append (take (at .depth) frames) (at .pc ∷ []) ∙ rw depth-is refl
 
-  frame-short : (func : ℕ) → short (sizes l) (used (setPc func (setFrames pushed-frames (view m)))) ≡ lacking (leb (at .depth + 1) (length frames)) true true
-  unfolding short used sizes view landOf setPc setFrames pagesOf
+  frame-short : (func : ℕ) → short (sizes l) (used (setPc func (setFrames pushed-frames (view m))))
+      ≡ lacking (leb (at .depth + 1) (length frames)) true true
+  unfolding short used sizes view memoryOf setPc setFrames pagesOf
   frame-short func = rw (pushed-length, le-leb _ _ (take-fits (t .active) slots), le-leb _ _ (take-fits (at .gc .pushed) heap)) refl
 
   pub turn-deep : (func : ℕ) → length frames ≤ at .depth → turn (effect.Call func) m ≡ stopped 3 m
@@ -197,8 +218,9 @@ module _ (t : StrTable) (at : Position) (regs frames heap slots spare : List ℕ
       sym (over-more (take (at .depth) frames) (at .pc) frames room) ∙ rw (over-take, depth-is) refl
 
   pub turn-call : (func : ℕ) → at .depth < length frames
-      → turn (effect.Call func) m ≡ went (machineAt t (record { pc = func; depth = at .depth + 1; gc = at .gc }) regs (lentOf (set frames (at .depth) (at .pc)) heap slots spare))
-  unfolding turn apply limited turned lacking unless laid withRegs withFrames withPages traced view landOf pagesOf numbersOf setPc setFrames
+      → turn (effect.Call func) m ≡ went
+      (machineAt t (record { pc = func; depth = at .depth + 1; gc = at .gc }) regs (lentOf (set frames (at .depth) (at .pc)) heap slots spare))
+  unfolding turn apply limited turned lacking unless laid withRegs withFrames withPages traced view memoryOf pagesOf numbersOf setPc setFrames
   turn-call func h =
       rw (frame-short func, le-leb (at .depth + 1) (length frames) (omega arith), pushed-length, frame-laid h, over-take, bytes-are) refl
 
@@ -217,20 +239,26 @@ module _ (t : StrTable) (at : Position) (regs frames heap slots spare : List ℕ
     back = setPc ((getD (take (at .depth) frames) d 0 + 1) % 2 ^ 64) (setFrames (take d (take (at .depth) frames)) (view m))
 
     back-fits : short (sizes l) (used back) ≡ none
-    unfolding short used sizes view landOf setPc setFrames pagesOf lacking
+    unfolding short used sizes view memoryOf setPc setFrames pagesOf lacking
     back-fits =
-        rw (inner-length, le-leb d (length frames) (omega arith), le-leb _ _ (take-fits (t .active) slots), le-leb _ _ (take-fits (at .gc .pushed) heap), lacking) refl
+        rw (
+          inner-length,
+          le-leb d (length frames) (omega arith),
+          le-leb _ _ (take-fits (t .active) slots),
+          le-leb _ _ (take-fits (at .gc .pushed) heap),
+          lacking,
+        ) refl
 
     pub turn-ret : turn effect.Ret m ≡ went (machineAt t (record { pc = (getD frames d 0 + 1) % 2 ^ 64; depth = d; gc = at .gc }) regs l)
-    unfolding turn apply limited turned unless returned view landOf laid withRegs withFrames withPages traced pagesOf numbersOf setPc setFrames
+    unfolding turn apply limited turned unless returned view memoryOf laid withRegs withFrames withPages traced pagesOf numbersOf setPc setFrames
     turn-ret =
         let deeper : length (view m .frames) ≡ suc d = depth-is ∙ e in
         rw (deeper, back-fits, inner-laid, inner-length, over-take, bytes-are, getD-take (at .depth) frames d 0 (omega arith)) refl
 
   -- ---- Load and Store
 
-  pub in-pages : (a : ℕ) → addressed (view m .land .pages) a ≡ (eqb (a % 8) 0 && reaches (at .gc .base) (at .gc .pushed) a 8)
-  unfolding addressed view landOf pagesOf
+  pub in-pages : (a : ℕ) → addressed (view m .memory .pages) a ≡ (eqb (a % 8) 0 && reaches (at .gc .base) (at .gc .pushed) a 8)
+  unfolding addressed view memoryOf pagesOf
   in-pages a = rw bytes-are refl
 
   module _ (base offset : ℕ) where
@@ -238,7 +266,7 @@ module _ (t : StrTable) (at : Position) (regs frames heap slots spare : List ℕ
     address = base + offset
 
     module _ (out : placeIn (at .gc) address ≡ Place.Outside) where
-      not-there : addressed (view m .land .pages) address ≡ false
+      not-there : addressed (view m .memory .pages) address ≡ false
       unfolding placeIn
       not-there = in-pages address ∙ outside-by _ (address - at .gc .base) out
 
@@ -251,14 +279,14 @@ module _ (t : StrTable) (at : Position) (regs frames heap slots spare : List ℕ
       turn-store-outside v = rw not-there refl
 
     module _ (i : ℕ) (there : placeIn (at .gc) address ≡ Place.At i) where
-      is-there : addressed (view m .land .pages) address ≡ true
+      is-there : addressed (view m .memory .pages) address ≡ true
       is-there = let r = reached (at .gc) address i there in in-pages address ∙ rw (r .aligned, r .inside) refl
 
       room : i + 8 ≤ at .gc .pushed
       room = place-room (at .gc) address i there
 
-      loaded-is : loaded (view m .land .pages) address ≡ number 8 i heap
-      unfolding loaded view landOf pagesOf
+      loaded-is : loaded (view m .memory .pages) address ≡ number 8 i heap
+      unfolding loaded view memoryOf pagesOf
       loaded-is =
           let r = reached (at .gc) address i there in
           rw (← (r .place)) (ap valueOf (part-take i 8 (at .gc .pushed) heap room))
@@ -268,28 +296,31 @@ module _ (t : StrTable) (at : Position) (regs frames heap slots spare : List ℕ
       turn-load dst = rw (is-there, loaded-is) (unfold view in goes-on (set regs dst (number 8 i heap)) (at .pc + 1))
 
       abbrev stores : ℕ → Pages
-      stores v = stored8 address v (view m .land .pages)
+      stores v = stored8 address v (view m .memory .pages)
 
       stores-length : (v : ℕ) → length (stores v .bytes) ≡ at .gc .pushed
-      unfolding stored8 setBytes view landOf pagesOf
+      unfolding stored8 setBytes view memoryOf pagesOf
       stores-length v = length-write _ _ _ ∙ bytes-are
 
       stores-laid : (v : ℕ) → over (stores v .bytes) heap ≡ write i (bytesOf 8 v) heap
-      unfolding stored8 setBytes view landOf pagesOf
+      unfolding stored8 setBytes view memoryOf pagesOf
       stores-laid v =
           let r = reached (at .gc) address i there in
           let n = length-bytesOf 8 v in
           rw (← (r .place)) (over-write i (bytesOf 8 v) (take (at .gc .pushed) heap) heap (rw (n, bytes-are) room) ∙ rw over-take refl)
 
-      stores-fit : (v : ℕ) → short (sizes l) (used (forward (setLand (setPages (stores v) (view m .land)) (view m)))) ≡ none
-      unfolding lacking used forward setPc setLand setPages view
+      stores-fit : (v : ℕ) → short (sizes l) (used (forward (setMemory (setPages (stores v) (view m .memory)) (view m)))) ≡ none
+      unfolding lacking used forward setPc setMemory setPages view
       stores-fit v =
-          let all : leb (length (stores v .bytes)) (length heap) ≡ true = rw (stores-length v) (le-leb (at .gc .pushed) (length heap) (sound .in-heap)) in
+          let all : leb (length (stores v .bytes)) (length heap)
+          ≡ true = rw (stores-length v) (le-leb (at .gc .pushed) (length heap) (sound .in-heap)) in
           pages-short (m .state) frames heap slots spare (stores v) ∙ rw (all, lacking) refl
 
-      pub turn-store : (v : ℕ) → turn (effect.Store base offset v) m ≡ went (machineAt t (moved at (at .pc + 1)) regs (lentOf frames (write i (bytesOf 8 v) heap) slots spare))
-      unfolding turn apply limited turned provided unless laid withRegs withFrames withPages traced numbersOf forward setPc setLand setPages
-      turn-store v = rw (is-there, stores-fit v, stores-laid v, stores-length v) (unfold view landOf pagesOf stored8 setBytes in rw (over-take, depth-is) refl)
+      pub turn-store : (v : ℕ) → turn (effect.Store base offset v) m
+          ≡ went (machineAt t (moved at (at .pc + 1)) regs (lentOf frames (write i (bytesOf 8 v) heap) slots spare))
+      unfolding turn apply limited turned provided unless laid withRegs withFrames withPages traced numbersOf forward setPc setMemory setPages
+      turn-store v = rw (is-there, stores-fit v, stores-laid v, stores-length v)
+          (unfold view memoryOf pagesOf stored8 setBytes in rw (over-take, depth-is) refl)
 
   -- ---- Alloc
 
@@ -298,21 +329,23 @@ module _ (t : StrTable) (at : Position) (regs frames heap slots spare : List ℕ
     b = allocated pageSize kind n (pagesOf (at .gc) heap)
 
     abbrev holding : Core
-    holding = forward (setReg dst (b .address) (setLand (setPages (b .pages) (view m .land)) (view m)))
+    holding = forward (setReg dst (b .address) (setMemory (setPages (b .pages) (view m .memory)) (view m)))
 
     alloc-short : short (sizes l) (used holding) ≡ lacking true true (fits (b .pages) (length heap))
-    unfolding fits used forward setPc setReg setLand setPages view
+    unfolding fits used forward setPc setReg setMemory setPages view
     alloc-short = pages-short (m .state) frames heap slots spare (b .pages)
 
     pub turn-no-block : r ≡ alloc.Refused → turn (effect.Alloc dst kind n) m ≡ stopped 2 (machineAt t at regs (lentOf frames x slots spare))
-    unfolding turn apply limited turned unless lacking took allocOf view landOf
+    unfolding turn apply limited turned unless lacking blockTo allocOf view memoryOf
     turn-no-block q =
         let s = refused-said (fits (b .pages) (length heap)) b heap x r q e in
         rw (alloc-short, s .0, s .1) refl
 
     pub turn-block : (a : ℕ) (g : Gc) → r ≡ alloc.At a g
-        → turn (effect.Alloc dst kind n) m ≡ went (machineAt t (record { pc = at .pc + 1; depth = at .depth; gc = g }) (set regs dst a) (lentOf frames x slots spare))
-    unfolding turn apply limited turned unless lacking took allocOf laid withRegs withFrames withPages traced forward setPc setReg setLand setPages view landOf
+        → turn (effect.Alloc dst kind n) m
+        ≡ went (machineAt t (record { pc = at .pc + 1; depth = at .depth; gc = g }) (set regs dst a) (lentOf frames x slots spare))
+    unfolding turn apply limited turned unless lacking blockTo allocOf laid withRegs withFrames withPages traced forward setPc setReg setMemory
+        setPages view memoryOf
     turn-block a g q =
         let s = at-said (fits (b .pages) (length heap)) b heap x r a g q e in
         rw (alloc-short, s .fitting, s .address, s .numbers, s .bytes, over-take, depth-is) refl

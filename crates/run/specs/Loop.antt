@@ -7,14 +7,14 @@ use lib.Dec.{eqb}
 use Rattle.string.specs.declared.table.StrTable.{StrTable}
 use Rattle.string.specs.Payload.{reaches}
 use Rattle.gc.specs.declared.Gc.{Gc}
-use Rattle.gc.specs.Lent.{Sound}
+use Rattle.gc.specs.Lent.{InHeap}
 use Rattle.program.specs.declared.Effect.{Effect}
 use Rattle.program.specs.Image.{Image}
 use Rattle.vm.specs.declared.State.{State}
-use Rattle.run.specs.declared.Position.{Position}
-use Rattle.run.specs.declared.Turn.{Turn}
-use Rattle.run.specs.declared.Turn.the-variants.{Next, Halt, Stop}
-use Rattle.run.specs.declared.Place.{Place}
+use Rattle.run.specs.declared.instruction.Position.{Position}
+use Rattle.run.specs.declared.instruction.Turn.{Turn}
+use Rattle.run.specs.declared.instruction.Turn.the-variants.{Next, Halt, Stop}
+use Rattle.run.specs.declared.instruction.Place.{Place}
 use Rattle.run.specs.declared.Ended.{Ended}
 use Rattle.run.specs.declared.Ran as Code
 use Rattle.vm.specs.Run.{Step, next, halted, stop, apply, limited, Ran, go}
@@ -36,7 +36,7 @@ pub record Going (n : ℕ) (at : Position) (frames heap : List ℕ) : Type 0 whe
   pub here : at .pc < n
   pub returns : Returns n (take (at .depth) frames)
   pub deep : at .depth ≤ length frames
-  pub sound : Sound (at .gc) heap
+  pub sound : InHeap (at .gc) heap
 
 -- ---- an instruction
 

@@ -14,7 +14,8 @@ returns-2 c =
     let allocate = answer .before .before .before .before .before in
     let unpack = allocate .before .before in
     λ frames slots spare.
-    served _ _ _ _ (unpack .before .before .if1 .left) _ (unpack .unpack .ensures) _ (allocate .allocate .ensures frames slots spare) _ _ _ (answer .answer-value .ensures .0) (answer .answer-value .ensures .1) (answer .answer-value .ensures .2)
+    served _ _ _ _ (unpack .before .before .if1 .left) _ (unpack .unpack .ensures) _ (allocate .allocate .ensures frames slots spare) _ _ _
+    (answer .answer-value .ensures .0) (answer .answer-value .ensures .1) (answer .answer-value .ensures .2)
 
 pub girzhanok-allocate-spec : {M : Type 1} → statement M
 girzhanok-allocate-spec =

@@ -18,7 +18,12 @@ returns-2 c =
     let unpack-heap = unpack-table .before .before in
     let if1 = unpack-heap .before .before in
     let start = if1 .before .before .before .before .before in
-    λ frames. served _ _ _ _ (if1 .if1 .left) (unpacked (start .args .state .now)) refl _ (rw (unpack-heap .unpack-heap .ensures, unpack-table .unpack-table .ensures) at (intern-small .intern-small .ensures (unpacked (start .args .state .now)) frames)) _ _ _ (answer-name .answer-name .ensures .0) (answer-name .answer-name .ensures .1) (answer-name .answer-name .ensures .2)
+    λ frames. served _ _ _ _ (if1 .if1 .left) (unpacked (start .args .state .now)) refl _
+    (rw (
+      unpack-heap .unpack-heap .ensures,
+      unpack-table .unpack-table .ensures,
+    ) at (intern-small .intern-small .ensures (unpacked (start .args .state .now)) frames)) _ _ _ (answer-name .answer-name .ensures .0)
+    (answer-name .answer-name .ensures .1) (answer-name .answer-name .ensures .2)
 
 pub girzhanok-intern-small-spec : {M : Type 1} → statement M
 girzhanok-intern-small-spec =

@@ -15,7 +15,9 @@ returns-2 c =
     let opt = option .before .before in
     let unpack = opt .before in
     λ frames slots spare.
-    served _ _ _ _ (unpack .before .before .if1 .left) _ (unpack .unpack .ensures) _ (rw (opt .opt .ensures) at (option .new-option .ensures frames slots spare)) _ _ _ (answer .answer-value .ensures .0) (answer .answer-value .ensures .1) (answer .answer-value .ensures .2)
+    served _ _ _ _ (unpack .before .before .if1 .left) _ (unpack .unpack .ensures) _
+    (rw (opt .opt .ensures) at (option .new-option .ensures frames slots spare)) _ _ _ (answer .answer-value .ensures .0)
+    (answer .answer-value .ensures .1) (answer .answer-value .ensures .2)
 
 pub girzhanok-option-spec : {M : Type 1} → statement M
 girzhanok-option-spec =

@@ -15,7 +15,8 @@ returns-2 c =
     let unpack = reset .before .before in
     λ heap slots spare.
     let told = reset .reset .ensures heap slots spare in
-    served _ _ _ _ (unpack .before .before .if1 .left) _ (unpack .unpack .ensures) _ told _ _ _ (answer .answer .ensures .0) (answer .answer .ensures .1) (quiet _ _ _ told)
+    served _ _ _ _ (unpack .before .before .if1 .left) _ (unpack .unpack .ensures) _ told _ _ _ (answer .answer .ensures .0)
+    (answer .answer .ensures .1) (quiet _ _ _ told)
 
 pub girzhanok-reset-spec : {M : Type 1} → statement M
 girzhanok-reset-spec =

@@ -14,7 +14,8 @@ returns-2 c =
     let ran = answer .before .before .before .before .before .before .before .before in
     let unpack = ran .before .before .before in
     λ slots spare.
-    served _ _ _ _ (unpack .before .before .if1 .left) _ (unpack .unpack .ensures) _ (ran .run .ensures slots spare) _ _ _ (answer .answer-run .ensures .0) (answer .answer-run .ensures .1) (answer .answer-run .ensures .2)
+    served _ _ _ _ (unpack .before .before .if1 .left) _ (unpack .unpack .ensures) _ (ran .run .ensures slots spare) _ _ _
+    (answer .answer-run .ensures .0) (answer .answer-run .ensures .1) (answer .answer-run .ensures .2)
 
 pub girzhanok-run-spec : {M : Type 1} → statement M
 girzhanok-run-spec =

@@ -16,7 +16,8 @@ returns-2 c =
     let pack = c .before .before in
     let set-pc = pack .before .before in
     let unpack = set-pc .before in
-    λ l. served _ _ _ _ (unpack .before .before .if1 .left) _ (unpack .unpack .ensures) _ (set-pc .set-pc .ensures l) _ _ _ refl (pack .pack .ensures) refl
+    λ l. served _ _ _ _ (unpack .before .before .if1 .left) _ (unpack .unpack .ensures) _ (set-pc .set-pc .ensures l) _ _ _ refl
+    (pack .pack .ensures) refl
 
 pub girzhanok-set-pc-spec : {M : Type 1} → statement M
 girzhanok-set-pc-spec =

@@ -15,7 +15,8 @@ returns-2 c =
     let unpack = set_register .before in
     λ l.
     let told = set_register .set-register .ensures l in
-    served _ _ _ _ (unpack .before .before .if1 .left) _ (unpack .unpack .ensures) _ told _ _ _ (answer .answer .ensures .0) (answer .answer .ensures .1) (quiet _ _ _ told)
+    served _ _ _ _ (unpack .before .before .if1 .left) _ (unpack .unpack .ensures) _ told _ _ _ (answer .answer .ensures .0)
+    (answer .answer .ensures .1) (quiet _ _ _ told)
 
 pub girzhanok-set-register-spec : {M : Type 1} → statement M
 girzhanok-set-register-spec =

@@ -8,10 +8,28 @@ use Rattle.run.proofs.go.Statement.{statement}
 use Rattle.run.proofs.go.Tie as tie
 
 abbrev Inv-loop : tie.InvT-loop
-Inv-loop budget regs₀ code globals switch-firsts switch-ends switch-entries lookup-firsts lookup-ends lookup-entries defaults frames₀ heap₀ at₀ steps₀ regs frames heap at steps = Running (imageOf code globals (tablesOf switch-firsts switch-ends switch-entries) (tablesOf lookup-firsts lookup-ends lookup-entries) defaults) budget regs₀ frames₀ heap₀ at₀ regs frames heap at steps
+Inv-loop budget regs₀ code globals switch-firsts switch-ends switch-entries lookup-firsts lookup-ends lookup-entries defaults frames₀ heap₀
+    at₀ steps₀ regs frames heap at steps = Running
+    (imageOf code globals (tablesOf switch-firsts switch-ends switch-entries) (tablesOf lookup-firsts lookup-ends lookup-entries) defaults)
+    budget regs₀ frames₀ heap₀ at₀ regs frames heap at steps
 
 abbrev μ-loop : tie.MeasureT-loop
-μ-loop budget regs₀ code globals switch-firsts switch-ends switch-entries lookup-firsts lookup-ends lookup-entries defaults frames₀ heap₀ at₀ steps₀ regs frames heap at steps = budget - steps
+μ-loop budget regs₀ code globals switch-firsts switch-ends switch-entries lookup-firsts lookup-ends lookup-entries defaults frames₀ heap₀
+    at₀ steps₀ regs frames heap at steps = budget - steps
+
+-- ---- places: the start of the loop, and from the end of a turn back
+
+abbrev start-of : tie.At-loop Inv-loop μ-loop → tie.Start Inv-loop μ-loop
+start-of c = c .before .before .before .before .before .before .before .before .before .before .before .before
+
+abbrev test-of : tie.After-word-effect Inv-loop μ-loop → tie.In-loop Inv-loop μ-loop
+test-of c = c .before .before .before
+
+-- from where `apply` has given frames and heap back
+abbrev word-of : tie.After-slice-known4 Inv-loop μ-loop → tie.After-word-effect Inv-loop μ-loop
+word-of c = c .before .before .before .before .before .before .before .before
+
+-- ---- needs
 
 loop-holds : tie.Need-loop-holds Inv-loop μ-loop
 loop-holds c =
@@ -25,51 +43,61 @@ shared-slice-read-word-effect c =
 
 word-effect-requires : tie.Need-word-effect-requires Inv-loop μ-loop
 word-effect-requires c κs =
-    let start = c .before .before .before .before .before .before .before .before .before .before .before .before .before .before .before in
+    let start = start-of (c .before .before .before) in
     (start .pre .0 .switches, start .pre .0 .lookups, start .pre .0 .defaults)
 
 apply-requires : tie.Need-apply-requires Inv-loop μ-loop
 apply-requires c κs =
     let word-effect = c .before .before .before in
-    let loop = word-effect .before .before .before .before in
-    let start = loop .before .before .before .before .before .before .before .before .before .before .before .before in
-    (rw (word-effect .word-effect .ensures (start .args .code .now)) (asks-writable _ (start .pre .0) _ _ _ _ _ _ _ _ _ _ (loop .loop .inv)), next-fits _ (start .pre .0) _ _ _ _ _ _ _ _ _ _ (loop .loop .inv), loop .loop .inv .going .deep, loop .loop .inv .going .sound)
+    let loop = test-of word-effect .before in
+    let start = start-of loop in (
+      rw (word-effect .word-effect .ensures (start .args .code .now))
+          (asks-writable _ (start .pre .0) _ _ _ _ _ _ _ _ _ _ (loop .loop .inv)),
+      next-fits _ (start .pre .0) _ _ _ _ _ _ _ _ _ _ (loop .loop .inv),
+      loop .loop .inv .going .deep,
+      loop .loop .inv .going .sound,
+    )
 
-add-t32 : tie.Need-add-t32 Inv-loop μ-loop
-add-t32 c =
-    let loop-test = c .before .before .before .before .before .before .before .before .before .before .before .before .before in
-    let start = loop-test .before .before .before .before .before .before .before .before .before .before .before .before .before in
-    omega (arith, loop-test .loop-test .taken, start .fits .budget)
+add-done : tie.Need-add-done Inv-loop μ-loop
+add-done c =
+    let loop-test = test-of (word-of (c .before .before)) in
+    omega (arith, loop-test .loop-test .taken, start-of (loop-test .before) .fits .budget)
 
 returns : tie.Need-returns Inv-loop μ-loop
 returns c =
     let apply = c .before .before .before .before .before .before in
     let word-effect = apply .before .before .before .before in
-    let loop-test = word-effect .before .before .before in
+    let loop-test = test-of word-effect in
     let loop = loop-test .before in
-    let start = loop .before .before .before .before .before .before .before .before .before .before .before .before in
-    λ t slots spare. halted-here _ (start .pre .0) _ _ _ _ _ _ _ _ _ _ (loop .loop .inv) (loop-test .loop-test .taken) t slots spare _ (rw (word-effect .word-effect .ensures (start .args .code .now), c .enum-told .given .1) at (apply .apply .ensures t slots spare))
+    let start = start-of loop in
+    λ t slots spare. halted-here _ (start .pre .0) _ _ _ _ _ _ _ _ _ _ (loop .loop .inv) (omega (arith, loop-test .loop-test .taken)) t slots spare _
+    (rw (
+      word-effect .word-effect .ensures (start .args .code .now),
+      c .enum-told .given .1,
+    ) at (apply .apply .ensures t slots spare))
 
 returns-2 : tie.Need-returns-2 Inv-loop μ-loop
 returns-2 c =
     let ending = c .before in
     let apply = ending .before .before .before .before .before .before in
     let word-effect = apply .before .before .before .before in
-    let loop-test = word-effect .before .before .before in
+    let loop-test = test-of word-effect in
     let loop = loop-test .before in
-    let start = loop .before .before .before .before .before .before .before .before .before .before .before .before in
-    λ t slots spare. stopped-here _ (start .pre .0) _ _ _ _ _ _ _ _ _ _ (loop .loop .inv) (loop-test .loop-test .taken) t slots spare _ _ (rw (word-effect .word-effect .ensures (start .args .code .now), ending .ending .given .1) at (apply .apply .ensures t slots spare))
+    let start = start-of loop in
+    λ t slots spare. stopped-here _ (start .pre .0) _ _ _ _ _ _ _ _ _ _ (loop .loop .inv) (omega (arith, loop-test .loop-test .taken)) t
+    slots spare _ _
+    (rw (
+      word-effect .word-effect .ensures (start .args .code .now),
+      ending .ending .given .1,
+    ) at (apply .apply .ensures t slots spare))
 
 add-steps : tie.Need-add-steps Inv-loop μ-loop
 add-steps c =
-    let loop-test = c .before .before .before .before .before .before .before .before .before .before .before .before .before .before in
-    let start = loop-test .before .before .before .before .before .before .before .before .before .before .before .before .before in
-    omega (arith, loop-test .loop-test .taken, start .fits .budget)
+    let loop-test = test-of (word-of (c .before .before .before)) in
+    omega (arith, loop-test .loop-test .taken, start-of (loop-test .before) .fits .budget)
 
 loop-less : tie.Need-loop-less Inv-loop μ-loop
-loop-less c =
-    let loop-test = c .before .before .before .before .before .before .before .before .before .before .before .before .before .before in
-    omega (arith, loop-test .loop-test .taken)
+loop-less c = omega (arith, test-of (word-of (c .before .before .before)) .loop-test .taken)
 
 loop-again : tie.Need-loop-again Inv-loop μ-loop
 loop-again c =
@@ -78,10 +106,14 @@ loop-again c =
     let frames = heap .before .before in
     let apply = frames .before in
     let word-effect = apply .before .before .before .before in
-    let loop-test = word-effect .before .before .before in
+    let loop-test = test-of word-effect in
     let loop = loop-test .before in
-    let start = loop .before .before .before .before .before .before .before .before .before .before .before .before in
-    running-next _ (start .pre .0) _ _ _ _ _ _ _ _ _ _ (loop .loop .inv) (loop-test .loop-test .taken) _ _ _ _ (λ t slots spare. rw (word-effect .word-effect .ensures (start .args .code .now), to .to .given .1) at (apply .apply .ensures t slots spare)) (frames .frames .given) (heap .heap .given)
+    let start = start-of loop in
+    running-next _ (start .pre .0) _ _ _ _ _ _ _ _ _ _ (loop .loop .inv) (omega (arith, loop-test .loop-test .taken)) _ _ _ _
+    (λ t slots spare. rw (
+      word-effect .word-effect .ensures (start .args .code .now),
+      to .to .given .1,
+    ) at (apply .apply .ensures t slots spare)) (frames .frames .given) (heap .heap .given)
 
 same-length-5 : tie.Need-same-length-5 Inv-loop μ-loop
 same-length-5 c =
@@ -96,7 +128,7 @@ same-length-6 c =
 returns-3 : tie.Need-returns-3 Inv-loop μ-loop
 returns-3 c =
     let loop = c .before in
-    let start = loop .before .before .before .before .before .before .before .before .before .before .before .before in
+    let start = start-of loop in
     λ t slots spare. spent-here _ (start .pre .0) _ _ _ _ _ _ _ _ _ _ (loop .loop .inv) (c .loop-test .left) t slots spare
 
 pub go-spec : {M : Type 1} → statement M
@@ -112,7 +144,7 @@ go-spec =
     apply-requires
     (λ c. search needs)
     (λ c. search needs)
-    add-t32
+    add-done
     (λ c. search needs)
     (λ c. search needs)
     returns

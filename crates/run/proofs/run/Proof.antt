@@ -24,7 +24,11 @@ returns c =
     let check = frames-belong .before .before in
     let heap-ok = check .before in
     let frames-ok = heap-ok .before in
-    λ slots spare. rw (c .not-run2 .ensures) (run-foreign _ _ _ _ _ (rw (frames-ok .frames-ok .ensures, heap-ok .heap-ok .ensures) at (verdict-fine _ _ (sym (enum-told .enum-told .given .1) ∙ check .check .ensures))) (frames-belong .frames-belong .ensures) (sound .sound .ensures) (not-true _ (if1 .if1 .taken)) slots spare)
+    λ slots spare. rw (c .not-run2 .ensures)
+    (run-foreign _ _ _ _ _
+    (rw (frames-ok .frames-ok .ensures, heap-ok .heap-ok .ensures) at (verdict-fine _ _
+    (sym (enum-told .enum-told .given .1) ∙ check .check .ensures))) (frames-belong .frames-belong .ensures) (sound .sound .ensures)
+    (not-true _ (if1 .if1 .taken)) slots spare)
 
 run-checked-requires : tie.Need-run-checked-requires
 run-checked-requires c κs =
@@ -35,7 +39,9 @@ run-checked-requires c κs =
     let check = frames-belong .before .before in
     let heap-ok = check .before in
     let frames-ok = heap-ok .before in
-    run-fine _ _ _ _ _ (rw (frames-ok .frames-ok .ensures, heap-ok .heap-ok .ensures) at (verdict-fine _ _ (sym (enum-told .enum-told .given .1) ∙ check .check .ensures))) (frames-belong .frames-belong .ensures) (sound .sound .ensures) (not-false _ (if1 .if1 .left))
+    run-fine _ _ _ _ _ (rw (frames-ok .frames-ok .ensures, heap-ok .heap-ok .ensures) at (verdict-fine _ _
+    (sym (enum-told .enum-told .given .1) ∙ check .check .ensures))) (frames-belong .frames-belong .ensures) (sound .sound .ensures)
+    (not-false _ (if1 .if1 .left))
 
 returns-2 : tie.Need-returns-2
 unfolding answerOf
@@ -45,19 +51,16 @@ returns-2 c =
     let check = checked .before .before .before .before .before in
     let heap-ok = check .before in
     let frames-ok = heap-ok .before in
-    λ slots spare. rw (c .not-run .ensures) (run-refused _ _ _ _ _ slots spare _ _ (rw (frames-ok .frames-ok .ensures, heap-ok .heap-ok .ensures) at (verdict-refused _ _ _ (sym (checked .checked .given .1) ∙ check .check .ensures))) (from-number .from-number .ensures))
+    λ slots spare. rw (c .not-run .ensures)
+    (run-refused _ _ _ _ _ slots spare _ _
+    (rw (frames-ok .frames-ok .ensures, heap-ok .heap-ok .ensures) at (verdict-refused _ _ _
+    (sym (checked .checked .given .1) ∙ check .check .ensures))) (from-number .from-number .ensures))
 
 returns-3 : tie.Need-returns-3
 returns-3 c =
     let run-checked = c .before .before .before .before in
-    let if1 = run-checked .before .before .before in
-    let enum-told = if1 .before in
-    let sound = enum-told .before .before in
-    let frames-belong = sound .before in
-    let check = frames-belong .before .before in
-    let heap-ok = check .before in
-    let frames-ok = heap-ok .before in
-    λ slots spare. run-checked .run-checked .ensures slots spare ∙ run-passed _ _ _ _ _ slots spare (any-slots _ _ _ _ _ (run-fine _ _ _ _ _ (rw (frames-ok .frames-ok .ensures, heap-ok .heap-ok .ensures) at (verdict-fine _ _ (sym (enum-told .enum-told .given .1) ∙ check .check .ensures))) (frames-belong .frames-belong .ensures) (sound .sound .ensures) (not-false _ (if1 .if1 .left))) slots spare)
+    λ slots spare. run-checked .run-checked .ensures slots spare ∙ run-passed _ _ _ _ _ slots spare
+    (any-slots _ _ _ _ _ (run-checked-requires (run-checked .before) (run-checked .run-checked .lifetimes)) slots spare)
 
 pub run-spec : {M : Type 1} → statement M
 run-spec =

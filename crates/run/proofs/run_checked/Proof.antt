@@ -1,8 +1,9 @@
 -- `run::run_checked` meets its contract. Assumes nothing.
-use mathlib.Core.Path.{_∙_}
+use mathlib.Core.Path.{_≡_, _∙_}
 use mathlib.Core.List.{[]}
-use lib.ListN.{length-set}
+use lib.ListN.{length, length-set}
 use native.Mathlib.Omega.{arith}
+use Rattle.vm.specs.Run.{root}
 use Rattle.vm.specs.Machine.{withRegs}
 use Rattle.vm.specs.Told.{answerOf}
 use Rattle.run.proofs.Entering.{any-slots, root-is, frame-there, run-empty, run-past, run-goes, loaded, going, run-listed}
@@ -10,17 +11,32 @@ use borrow.Author.Needs.{needs}
 use Rattle.run.proofs.run_checked.Statement.{statement}
 use Rattle.run.proofs.run_checked.Tie as tie
 
+-- ---- places: the start, the write of frame 0, and the entry of the loop
+
+abbrev start-of : tie.After-slice-known2 → tie.Start
+start-of c = c .before .before .before .before .before .before .before .before .before .before .before
+
+abbrev entry-of : tie.After-go → tie.Else2
+entry-of c = c .before .before .before .before .before .before
+
+-- frame 0 is written with (length − 2) modulo 2^64
+frame-0 : (c : tie.After-wrapping-sub-u64)
+    → c .wrapping-sub-u64 .result ≡ root (length (start-of (c .before .before) .args .code .now))
+frame-0 c =
+    let start = start-of (c .before .before) in
+    root-is _ _ _ _ _ _ _ (start .pre) _ (omega arith) (c .wrapping-sub-u64 .ensures)
+
+-- ---- needs
+
 returns : tie.Need-returns
 unfolding answerOf
 returns c =
     let if1 = c .before in
-    let start = if1 .before .before .before .before .before .before .before .before .before .before .before .before in
+    let start = start-of (if1 .before) in
     λ slots spare. rw (c .idle .ensures) (run-empty _ _ _ _ _ slots spare (any-slots _ _ _ _ _ (start .pre) slots spare) (if1 .if1 .taken))
 
 slice-write-frames : tie.Need-slice-write-frames
-slice-write-frames c =
-    let start = c .before .before .before .before .before .before .before .before .before .before .before .before .before in
-    frame-there _ _ _ _ _ _ _ (start .pre)
+slice-write-frames c = frame-there _ _ _ _ _ _ _ (start-of (c .before .before) .pre)
 
 returns-2 : tie.Need-returns-2
 unfolding answerOf
@@ -28,40 +44,46 @@ returns-2 c =
     let if2 = c .before in
     let wrapping-sub-u64 = if2 .before .before in
     let if1 = wrapping-sub-u64 .before in
-    let start = if1 .before .before .before .before .before .before .before .before .before .before .before .before in
-    λ slots spare. rw (c .idle2 .ensures, root-is _ _ _ _ _ _ _ (start .pre) _ (omega arith) (wrapping-sub-u64 .wrapping-sub-u64 .ensures)) (run-past _ _ _ _ _ slots spare (any-slots _ _ _ _ _ (start .pre) slots spare) (omega (arith, if1 .if1 .left)) (if2 .if2 .taken))
+    let start = start-of (if1 .before) in
+    λ slots spare. rw (c .idle2 .ensures)
+    (run-past _ _ _ _ _ slots spare (any-slots _ _ _ _ _ (start .pre) slots spare) (frame-0 wrapping-sub-u64) (omega (arith, if1 .if1 .left))
+    (if2 .if2 .taken))
 
 go-requires : tie.Need-go-requires
 go-requires c κs =
     let if2 = c .before .before .before .before .before in
     let wrapping-sub-u64 = if2 .before .before in
     let if1 = wrapping-sub-u64 .before in
-    let start = if1 .before .before .before .before .before .before .before .before .before .before .before .before in
-    (loaded _ _ _ _ _ _ _ (start .pre) (omega (arith, if1 .if1 .left)), rw (root-is _ _ _ _ _ _ _ (start .pre) _ (omega arith) (wrapping-sub-u64 .wrapping-sub-u64 .ensures)) (going _ _ _ _ _ _ _ (start .pre) (if2 .if2 .left)))
+    let start = start-of (if1 .before) in (
+      loaded _ _ _ _ _ _ _ (start .pre) (omega (arith, if1 .if1 .left)),
+      going _ _ _ _ _ _ _ (start .pre) (frame-0 wrapping-sub-u64) (if2 .if2 .left),
+    )
 
 finish-requires : tie.Need-finish-requires
 finish-requires c κs =
     let go = c .before .before .before .before in
-    let if2 = go .before .before .before .before .before .before in
+    let if2 = entry-of go in
     let wrapping-sub-u64 = if2 .before .before in
-    let start = wrapping-sub-u64 .before .before .before .before .before .before .before .before .before .before .before .before .before in
-    run-listed _ _ _ _ _ [] [] (start .pre) (if2 .if2 .left) _ (rw (root-is _ _ _ _ _ _ _ (start .pre) _ (omega arith) (wrapping-sub-u64 .wrapping-sub-u64 .ensures)) at (go .go .ensures (start .args .state .strings) [] []))
+    let start = start-of (wrapping-sub-u64 .before .before) in
+    run-listed _ _ _ _ _ [] [] (start .pre) (frame-0 wrapping-sub-u64) (if2 .if2 .left) _ (go .go .ensures (start .args .state .strings) [] [])
 
 same-length-2 : tie.Need-same-length-2
 same-length-2 c =
     let frames = c .before .before .before .before in
-    let wrapping-sub-u64 = frames .before .before .before .before .before .before .before .before .before in
-    let start = wrapping-sub-u64 .before .before .before .before .before .before .before .before .before .before .before .before .before in
+    let wrapping-sub-u64 = entry-of (frames .before) .before .before in
+    let start = start-of (wrapping-sub-u64 .before .before) in
     frames .frames .given ∙ length-set (start .args .frames .now) 0 (wrapping-sub-u64 .wrapping-sub-u64 .result)
 
 returns-3 : tie.Need-returns-3
 unfolding withRegs
 returns-3 c =
     let go = c .before .before .before .before .before in
-    let if2 = go .before .before .before .before .before .before in
+    let if2 = entry-of go in
     let wrapping-sub-u64 = if2 .before .before in
-    let start = wrapping-sub-u64 .before .before .before .before .before .before .before .before .before .before .before .before .before in
-    λ slots spare. rw (c .finish .ensures .0, c .finish .ensures .1) (run-goes _ _ _ _ _ slots spare (any-slots _ _ _ _ _ (start .pre) slots spare) (if2 .if2 .left) _ (rw (root-is _ _ _ _ _ _ _ (start .pre) _ (omega arith) (wrapping-sub-u64 .wrapping-sub-u64 .ensures)) at (go .go .ensures (start .args .state .strings) slots spare)))
+    let start = start-of (wrapping-sub-u64 .before .before) in
+    λ slots spare. rw (c .finish .ensures .0, c .finish .ensures .1)
+    (run-goes _ _ _ _ _ slots spare (any-slots _ _ _ _ _ (start .pre) slots spare) (frame-0 wrapping-sub-u64) (if2 .if2 .left) _
+    (go .go .ensures (start .args .state .strings) slots spare))
 
 pub run-checked-spec : {M : Type 1} → statement M
 run-checked-spec =

@@ -12,8 +12,11 @@ returns c =
     let steps = c .before in
     let pc = steps .before in
     let pack = pc .before .before .before in
-    let match-end = pack .before .before .before in
-    (c .number .ensures ∙ end-number _, rw (pack .pack .ensures) (end-kept _ (match-end .match .keys1) _ _), rw (pc .pc .ensures, steps .steps .ensures) (end-answers _ (match-end .match .keys1) _))
+    let match-end = pack .before .before .before in (
+      c .number .ensures ∙ end-number _,
+      rw (pack .pack .ensures) (end-kept _ (match-end .match .keys1) _ _),
+      rw (pc .pc .ensures, steps .steps .ensures) (end-answers _ (match-end .match .keys1) _),
+    )
 
 returns-2 : tie.Need-returns-2
 unfolding answered kept answerOf

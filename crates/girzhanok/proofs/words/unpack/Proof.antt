@@ -26,7 +26,14 @@ returns c =
     let size = size2 .before .before in
     let copy-words = size .before .before .before in
     let start = copy-words .before .before .before .before in
-    rw (copy-words .copy-words .ensures, size .size .ensures, size2 .size2 .ensures, unpack-heap .unpack-heap .ensures, c .unpack-table .ensures, over-whole _ _ (length-take-le 32 (start .args .words .now) (omega arith))) refl
+    rw (
+      copy-words .copy-words .ensures,
+      size .size .ensures,
+      size2 .size2 .ensures,
+      unpack-heap .unpack-heap .ensures,
+      c .unpack-table .ensures,
+      over-whole _ _ (length-take-le 32 (start .args .words .now) (omega arith)),
+    ) refl
 
 pub unpack-spec : {M : Type 1} → statement M
 unpack-spec =

@@ -1,6 +1,6 @@
 -- `names::interner::check` meets its contract. Assumes nothing.
 use Rattle.names.specs.Interned.{testedOf}
-use Rattle.names.proofs.Interning.{tested-10, tested-9, tested-fine}
+use Rattle.names.proofs.Tests.{tested-10, tested-9, tested-fine}
 use borrow.Author.Needs.{needs}
 use Rattle.names.proofs.interner.check.Statement.{statement}
 use Rattle.names.proofs.interner.check.Tie as tie
@@ -11,7 +11,8 @@ returns c =
     let slots-ok = c .before in
     let heap-ok = slots-ok .before in
     let start = heap-ok .before .before .before .before in
-    λ rest frames. tested-10 rest frames (start .args .gc) (start .args .strings) (start .args .heap .now) (start .args .slots .now) (start .args .spare .now) (heap-ok .heap-ok .ensures) (slots-ok .slots-ok .ensures) (c .if1 .taken)
+    λ rest frames. tested-10 rest frames (start .args .gc) (start .args .strings) (start .args .heap .now) (start .args .slots .now)
+    (start .args .spare .now) (heap-ok .heap-ok .ensures) (slots-ok .slots-ok .ensures) (c .if1 .taken)
 
 returns-2 : tie.Need-returns-2
 unfolding testedOf
@@ -22,7 +23,9 @@ returns-2 c =
     let slots-ok = if1 .before in
     let heap-ok = slots-ok .before in
     let start = heap-ok .before .before .before .before in
-    λ rest frames. tested-9 rest frames (start .args .gc) (start .args .strings) (start .args .heap .now) (start .args .slots .now) (start .args .spare .now) (heap-ok .heap-ok .ensures) (slots-ok .slots-ok .ensures) (if1 .if1 .left) (sound2 .sound2 .ensures) (sound .sound .ensures) (c .if2 .taken)
+    λ rest frames. tested-9 rest frames (start .args .gc) (start .args .strings) (start .args .heap .now) (start .args .slots .now)
+    (start .args .spare .now) (heap-ok .heap-ok .ensures) (slots-ok .slots-ok .ensures) (if1 .if1 .left) (sound2 .sound2 .ensures)
+    (sound .sound .ensures) (c .if2 .taken)
 
 returns-3 : tie.Need-returns-3
 unfolding testedOf
@@ -33,7 +36,9 @@ returns-3 c =
     let slots-ok = if1 .before in
     let heap-ok = slots-ok .before in
     let start = heap-ok .before .before .before .before in
-    λ rest frames. tested-fine rest frames (start .args .gc) (start .args .strings) (start .args .heap .now) (start .args .slots .now) (start .args .spare .now) (heap-ok .heap-ok .ensures) (slots-ok .slots-ok .ensures) (if1 .if1 .left) (sound2 .sound2 .ensures) (sound .sound .ensures) (c .if2 .left)
+    λ rest frames. tested-fine rest frames (start .args .gc) (start .args .strings) (start .args .heap .now) (start .args .slots .now)
+    (start .args .spare .now) (heap-ok .heap-ok .ensures) (slots-ok .slots-ok .ensures) (if1 .if1 .left) (sound2 .sound2 .ensures)
+    (sound .sound .ensures) (c .if2 .left)
 
 pub check-spec : {M : Type 1} → statement M
 check-spec =

@@ -13,7 +13,9 @@ returns c =
     let if1 = c .before in
     let room = if1 .before in
     let start = room .before .before .before .before .before in
-    λ rest frames. rw (c .refused .ensures) (fresh-18 (holding rest (start .args .gc) (start .args .strings)) frames _ _ _ _ (start .pre .0) _ (start .pre .1) (rw (room .room .ensures) at (if1 .if1 .taken)))
+    λ rest frames. rw (c .refused .ensures)
+    (fresh-18 (holding rest (start .args .gc) (start .args .strings)) frames _ _ _ _ (start .pre .0) _ (start .pre .1)
+    (rw (room .room .ensures) at (if1 .if1 .taken)))
 
 returns-2 : tie.Need-returns-2
 unfolding saidOf
@@ -23,7 +25,9 @@ returns-2 c =
     let if1 = store .before .before in
     let room = if1 .before in
     let start = room .before .before .before .before .before in
-    λ rest frames. rw (c .refused2 .ensures) (fresh-2 (holding rest (start .args .gc) (start .args .strings)) frames _ _ _ _ (start .pre .0) _ (start .pre .1) (rw (room .room .ensures) at (if1 .if1 .left)) _ _ (store .store .ensures) (enum-told .enum-told .given .1))
+    λ rest frames. rw (c .refused2 .ensures)
+    (fresh-2 (holding rest (start .args .gc) (start .args .strings)) frames _ _ _ _ (start .pre .0) _ (start .pre .1)
+    (rw (room .room .ensures) at (if1 .if1 .left)) _ _ (store .store .ensures) (enum-told .enum-told .given .1))
 
 slice-reshare-prefix-insert : tie.Need-slice-reshare-prefix-insert
 slice-reshare-prefix-insert c =
@@ -48,7 +52,8 @@ returns-3 c =
     let if1 = store .before .before in
     let room = if1 .before in
     let start = room .before .before .before .before .before in
-    λ rest frames. fresh-done (holding rest (start .args .gc) (start .args .strings)) frames _ _ _ _ (start .pre .0) _ (start .pre .1) (rw (room .room .ensures) at (if1 .if1 .left)) _ _ (store .store .ensures) _ _ (address .address .given .1) _ _ _ (insert .insert .ensures)
+    λ rest frames. fresh-done (holding rest (start .args .gc) (start .args .strings)) frames _ _ _ _ (start .pre .0) _ (start .pre .1)
+    (rw (room .room .ensures) at (if1 .if1 .left)) _ _ (store .store .ensures) _ _ (address .address .given .1) _ _ _ (insert .insert .ensures)
 
 pub fresh-spec : {M : Type 1} → statement M
 fresh-spec =

@@ -11,7 +11,8 @@ unfolding known saidOf
 returns c =
     let found = c .before in
     let start = found .before .before .before .before .before .before in
-    λ rest frames. rw (found .found .given .1) (found-done (holding rest (start .args .gc) (start .args .strings)) frames _ _ _ (start .args .s .now) (start .pre .0) _)
+    λ rest frames. rw (found .found .given .1)
+    (found-done (holding rest (start .args .gc) (start .args .strings)) frames _ _ _ (start .args .s .now) (start .pre .0) _)
 
 returns-2 : tie.Need-returns-2
 returns-2 c =

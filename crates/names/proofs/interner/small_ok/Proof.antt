@@ -1,6 +1,6 @@
 -- `names::interner::small_ok` meets its contract. Assumes nothing.
 use native.Mathlib.Omega.{arith}
-use Rattle.names.proofs.Interning.{small-whole, small-shifted}
+use Rattle.names.proofs.SmallOk.{small-whole, small-shifted}
 use borrow.Author.Needs.{needs}
 use Rattle.names.proofs.interner.small_ok.Statement.{statement}
 use Rattle.names.proofs.interner.small_ok.Tie as tie

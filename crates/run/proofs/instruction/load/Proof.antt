@@ -1,10 +1,10 @@
--- `run::load` meets its contract. Assumes nothing.
+-- `run::instruction::load` meets its contract. Assumes nothing.
 use mathlib.Core.Path.{sym, _∙_}
 use native.Mathlib.Omega.{arith}
 use Rattle.run.proofs.Turns.{place-room, turn-load-outside, turn-load}
 use borrow.Author.Needs.{needs}
-use Rattle.run.proofs.load.Statement.{statement}
-use Rattle.run.proofs.load.Tie as tie
+use Rattle.run.proofs.instruction.load.Statement.{statement}
+use Rattle.run.proofs.instruction.load.Tie as tie
 
 reach-requires : tie.Need-reach-requires
 reach-requires c κs =
@@ -15,7 +15,8 @@ returns : tie.Need-returns
 returns c =
     let reach = c .before .before in
     let start = reach .before .before in
-    λ t frames slots spare deep. sym (turn-load-outside t _ _ frames _ slots spare deep (start .pre .2) _ _ (sym (reach .reach .ensures) ∙ c .enum-told .given .1) _)
+    λ t frames slots spare deep. sym
+    (turn-load-outside t _ _ frames _ slots spare deep (start .pre .2) _ _ (sym (reach .reach .ensures) ∙ c .enum-told .given .1) _)
 
 load8-requires : tie.Need-load8-requires
 load8-requires c κs =
@@ -30,7 +31,8 @@ returns-2 c =
     let i = load8 .before .before in
     let reach = i .before .before in
     let start = reach .before .before in
-    λ t frames slots spare deep. rw (c .to .ensures, load8 .load8 .ensures) (sym (turn-load t _ _ frames _ slots spare deep (start .pre .2) _ _ _ (sym (reach .reach .ensures) ∙ i .i .given .1) _))
+    λ t frames slots spare deep. rw (c .to .ensures, load8 .load8 .ensures)
+    (sym (turn-load t _ _ frames _ slots spare deep (start .pre .2) _ _ _ (sym (reach .reach .ensures) ∙ i .i .given .1) _))
 
 pub load-spec : {M : Type 1} → statement M
 load-spec =

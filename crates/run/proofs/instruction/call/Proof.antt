@@ -1,9 +1,9 @@
--- `run::call` meets its contract. Assumes nothing.
+-- `run::instruction::call` meets its contract. Assumes nothing.
 use mathlib.Core.Path.{sym}
 use Rattle.run.proofs.Turns.{turn-deep, turn-call}
 use borrow.Author.Needs.{needs}
-use Rattle.run.proofs.call.Statement.{statement}
-use Rattle.run.proofs.call.Tie as tie
+use Rattle.run.proofs.instruction.call.Statement.{statement}
+use Rattle.run.proofs.instruction.call.Tie as tie
 
 returns : tie.Need-returns
 returns c =

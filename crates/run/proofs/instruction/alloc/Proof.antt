@@ -1,9 +1,9 @@
--- `run::alloc` meets its contract. Assumes nothing.
+-- `run::instruction::alloc` meets its contract. Assumes nothing.
 use mathlib.Core.Path.{sym}
 use Rattle.run.proofs.Turns.{turn-no-block, turn-block}
 use borrow.Author.Needs.{needs}
-use Rattle.run.proofs.alloc.Statement.{statement}
-use Rattle.run.proofs.alloc.Tie as tie
+use Rattle.run.proofs.instruction.alloc.Statement.{statement}
+use Rattle.run.proofs.instruction.alloc.Tie as tie
 
 returns : tie.Need-returns
 returns c =
@@ -11,7 +11,9 @@ returns c =
     let new = alloc .before .before in
     let from-number = new .before in
     let start = from-number .before .before in
-    λ t frames slots spare deep. sym (turn-no-block t _ _ frames _ slots spare deep (start .pre .3) _ _ _ _ _ (rw (new .new .ensures .0, new .new .ensures .1, from-number .from-number .ensures) at (alloc .alloc .ensures)) (c .enum-told .given .1))
+    λ t frames slots spare deep. sym
+    (turn-no-block t _ _ frames _ slots spare deep (start .pre .3) _ _ _ _ _
+    (rw (new .new .ensures .0, new .new .ensures .1, from-number .from-number .ensures) at (alloc .alloc .ensures)) (c .enum-told .given .1))
 
 returns-2 : tie.Need-returns-2
 returns-2 c =
@@ -20,7 +22,9 @@ returns-2 c =
     let new = alloc .before .before in
     let from-number = new .before in
     let start = from-number .before .before in
-    λ t frames slots spare deep. sym (turn-block t _ _ frames _ slots spare deep (start .pre .3) _ _ _ _ _ (rw (new .new .ensures .0, new .new .ensures .1, from-number .from-number .ensures) at (alloc .alloc .ensures)) _ _ (address .address .given .1))
+    λ t frames slots spare deep. sym
+    (turn-block t _ _ frames _ slots spare deep (start .pre .3) _ _ _ _ _
+    (rw (new .new .ensures .0, new .new .ensures .1, from-number .from-number .ensures) at (alloc .alloc .ensures)) _ _ (address .address .given .1))
 
 pub alloc-spec : {M : Type 1} → statement M
 alloc-spec =

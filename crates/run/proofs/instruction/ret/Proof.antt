@@ -1,11 +1,11 @@
--- `run::ret` meets its contract. Assumes nothing.
+-- `run::instruction::ret` meets its contract. Assumes nothing.
 use mathlib.Core.Path.{_≡_, sym}
 use Prim.Native.Nat.{suc, _-_}
 use native.Mathlib.Omega.{arith}
 use Rattle.run.proofs.Turns.{turn-underflow, turn-ret}
 use borrow.Author.Needs.{needs}
-use Rattle.run.proofs.ret.Statement.{statement}
-use Rattle.run.proofs.ret.Tie as tie
+use Rattle.run.proofs.instruction.ret.Statement.{statement}
+use Rattle.run.proofs.instruction.ret.Tie as tie
 
 returns : tie.Need-returns
 returns c =

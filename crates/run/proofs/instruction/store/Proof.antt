@@ -1,10 +1,10 @@
--- `run::store` meets its contract. Assumes nothing.
+-- `run::instruction::store` meets its contract. Assumes nothing.
 use mathlib.Core.Path.{sym, _∙_}
 use native.Mathlib.Omega.{arith}
 use Rattle.run.proofs.Turns.{place-room, turn-store-outside, turn-store}
 use borrow.Author.Needs.{needs}
-use Rattle.run.proofs.store.Statement.{statement}
-use Rattle.run.proofs.store.Tie as tie
+use Rattle.run.proofs.instruction.store.Statement.{statement}
+use Rattle.run.proofs.instruction.store.Tie as tie
 
 reach-requires : tie.Need-reach-requires
 reach-requires c κs =
@@ -15,7 +15,8 @@ returns : tie.Need-returns
 returns c =
     let reach = c .before .before in
     let start = reach .before .before in
-    λ t regs frames slots spare deep. sym (turn-store-outside t _ regs frames _ slots spare deep (start .pre .1) _ _ (sym (reach .reach .ensures) ∙ c .enum-told .given .1) _)
+    λ t regs frames slots spare deep. sym
+    (turn-store-outside t _ regs frames _ slots spare deep (start .pre .1) _ _ (sym (reach .reach .ensures) ∙ c .enum-told .given .1) _)
 
 store8-requires : tie.Need-store8-requires
 store8-requires c κs =
@@ -30,7 +31,8 @@ returns-2 c =
     let i = store8 .before .before .before in
     let reach = i .before .before in
     let start = reach .before .before in
-    λ t regs frames slots spare deep. rw (c .to .ensures, store8 .store8 .ensures) (sym (turn-store t _ regs frames _ slots spare deep (start .pre .1) _ _ _ (sym (reach .reach .ensures) ∙ i .i .given .1) _))
+    λ t regs frames slots spare deep. rw (c .to .ensures, store8 .store8 .ensures)
+    (sym (turn-store t _ regs frames _ slots spare deep (start .pre .1) _ _ _ (sym (reach .reach .ensures) ∙ i .i .given .1) _))
 
 pub store-spec : {M : Type 1} → statement M
 store-spec =

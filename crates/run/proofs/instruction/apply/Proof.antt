@@ -1,9 +1,9 @@
--- `run::apply` meets its contract. Assumes nothing.
+-- `run::instruction::apply` meets its contract. Assumes nothing.
 use mathlib.Core.Path.{sym}
 use Rattle.run.proofs.Turns.{turn-skip, turn-goto, turn-stop, turn-halt}
 use borrow.Author.Needs.{needs}
-use Rattle.run.proofs.apply.Statement.{statement}
-use Rattle.run.proofs.apply.Tie as tie
+use Rattle.run.proofs.instruction.apply.Statement.{statement}
+use Rattle.run.proofs.instruction.apply.Tie as tie
 
 set-requires : tie.Need-set-requires
 set-requires c κs =
