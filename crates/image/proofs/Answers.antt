@@ -22,13 +22,14 @@ use Rattle.vm.specs.Machine.{Lent, Machine, Answer, ended, value, done, refused
 use Rattle.vm.specs.declared.State.{State}
 use Rattle.vm.specs.declared.Reply.{Reply}
 use Rattle.vm.proofs.Reply as replies
-use Rattle.vm.specs.Told.{answerOf}
-use Rattle.vm.specs.Told.{lentOf, machineOf, saidOf, startedOn}
-use Rattle.image.specs.Runner.{imageWith, imageIn, Interned, internAll, WritesText, summaryOf, replyText, runText, answerText, internedText, namedText, startedText}
+use Rattle.vm.specs.Told.{lentOf, machineOf, answerOf, saidOf, startedOn}
+use Rattle.image.specs.Runner.{imageWith, imageIn, Interned, internAll, WritesText, summaryOf, replyText, runText, answerText}
+use Rattle.image.specs.Runner.{internedText, namedText, startedText}
 
 -- ---- the image's parts
 
-module _ (s code globals : List ℕ) (switches lookups : Tables) (defaults : List ℕ) (e : imageOf code globals switches lookups defaults ≡ imageIn s) where
+module _ (s code globals : List ℕ) (switches lookups : Tables) (defaults : List ℕ)
+    (e : imageOf code globals switches lookups defaults ≡ imageIn s) where
   pub with-globals : (g : List ℕ) → imageOf code g switches lookups defaults ≡ imageWith g s
   with-globals g =
       let c = ap (λ (x : Image). x .code) e in
@@ -44,12 +45,14 @@ module _ (s code globals : List ℕ) (switches lookups : Tables) (defaults : Lis
 
 module _ (s : List ℕ) (h : Head) (base : ℕ) (l : Lent) where
   -- an answer that is not `done` is the refusal's
-  pub started-refused : (x : Started) (a : Answer) (m : Machine) → record { answer = a; machine = m } ≡ startedOn x base l → (a ≡ done → ⊥) → replyText a ≡ startedText s h x
+  pub started-refused : (x : Started) (a : Answer) (m : Machine) → record { answer = a; machine = m } ≡ startedOn x base l → (a ≡ done → ⊥)
+      → replyText a ≡ startedText s h x
   unfolding startedOn startedText
   started-refused (declined e) a m q n = rw (ap (λ (c : Called). c .answer) q) refl
   started-refused (begun k) a m q n = absurd (n (ap (λ (c : Called). c .answer) q))
 
-  pub started-done : (x : Started) (m : Machine) → record { answer = done; machine = m } ≡ startedOn x base l → namedText s h (internAll (namesOf 0 (linesOf s)) m (sectionIn Globals s)) ≡ startedText s h x
+  pub started-done : (x : Started) (m : Machine) → record { answer = done; machine = m } ≡ startedOn x base l
+      → namedText s h (internAll (namesOf 0 (linesOf s)) m (sectionIn Globals s)) ≡ startedText s h x
   unfolding startedOn startedText
   started-done (declined e) m q = let z : _≡_ {A = ℕ} 0 1 = cc (ap (λ (c : Called). c .answer) q) in absurd (omega arith)
   started-done (begun n) m q = let z : m ≡ n = ap (λ (c : Called). c .machine) q in rw z refl
@@ -57,14 +60,16 @@ module _ (s : List ℕ) (h : Head) (base : ℕ) (l : Lent) where
 -- ---- the names
 
 module _ (s : List ℕ) (h : Head) where
-  pub names-refused : (x : Interned) (a : Answer) (m : Machine) (g : List ℕ) → record { called = record { answer = a; machine = m }; globals = g } ≡ x → (a ≡ done → ⊥) → replyText a ≡ namedText s h x
+  pub names-refused : (x : Interned) (a : Answer) (m : Machine) (g : List ℕ)
+      → record { called = record { answer = a; machine = m }; globals = g } ≡ x → (a ≡ done → ⊥) → replyText a ≡ namedText s h x
   unfolding internedText
   names-refused x done m g e n = absurd (n refl)
   names-refused x (value v) m g e n = rw (← e) refl
   names-refused x (refused k) m g e n = rw (← e) refl
   names-refused x (ended k pc steps) m g e n = rw (← e) refl
 
-  pub names-done : (x : Interned) (m : Machine) (g : List ℕ) → record { called = record { answer = done; machine = m }; globals = g } ≡ x → answerText (perform (run (imageWith g s) (h .budget)) m) ≡ namedText s h x
+  pub names-done : (x : Interned) (m : Machine) (g : List ℕ) → record { called = record { answer = done; machine = m }; globals = g } ≡ x
+      → answerText (perform (run (imageWith g s) (h .budget)) m) ≡ namedText s h x
   unfolding internedText
   names-done x m g e = rw (← e) refl
 
@@ -87,24 +92,29 @@ pub done-is : (r : Reply) → r ≡ Reply.Done → saidOf r ≡ done
 unfolding saidOf
 done-is r e = rw e refl
 
-module _ (s : List ℕ) (h : Head) (base : ℕ) (l : Lent) (x : Started) (r : Reply) (m : Machine) (begins : record { answer = saidOf r; machine = m } ≡ startedOn x base l) where
+module _ (s : List ℕ) (h : Head) (base : ℕ) (l : Lent) (x : Started) (r : Reply) (m : Machine)
+    (begins : record { answer = saidOf r; machine = m } ≡ startedOn x base l) where
   -- a reply that is not `done` is all there is
   pub start-says : (saidOf r ≡ done → ⊥) → replyText (saidOf r) ≡ startedText s h x
   start-says n = started-refused s h base l x (saidOf r) m begins n
 
-  module _ (d : saidOf r ≡ done) (globals : List ℕ) (g : globals ≡ sectionIn Globals s) (r′ : Reply) (m′ : Machine) (g′ : List ℕ) (names : record { called = record { answer = saidOf r′; machine = m′ }; globals = g′ } ≡ internAll (namesOf 0 (linesOf s)) m globals) where
+  module _ (d : saidOf r ≡ done) (globals : List ℕ) (g : globals ≡ sectionIn Globals s) (r′ : Reply) (m′ : Machine) (g′ : List ℕ)
+      (names : record { called = record { answer = saidOf r′; machine = m′ }; globals = g′ } ≡ internAll (namesOf 0 (linesOf s)) m globals) where
     named : namedText s h (internAll (namesOf 0 (linesOf s)) m (sectionIn Globals s)) ≡ startedText s h x
     named = started-done s h base l x m (rw d at begins)
 
-    entered : record { called = record { answer = saidOf r′; machine = m′ }; globals = g′ } ≡ internAll (namesOf 0 (linesOf s)) m (sectionIn Globals s)
+    entered : record { called = record { answer = saidOf r′; machine = m′ }; globals = g′ }
+        ≡ internAll (namesOf 0 (linesOf s)) m (sectionIn Globals s)
     entered = names ∙ ap (λ (y : List ℕ). internAll (namesOf 0 (linesOf s)) m y) g
 
     pub names-say : (saidOf r′ ≡ done → ⊥) → replyText (saidOf r′) ≡ startedText s h x
     names-say n = names-refused s h _ (saidOf r′) m′ g′ entered n ∙ named
 
     -- a run is lent no slots, and says the same whatever they are
-    pub run-says : saidOf r′ ≡ done → (im : Image) → im ≡ imageWith g′ s → (b : ℕ) → b ≡ h .budget → (st : State) (f p k q : List ℕ) → m′ ≡ machineOf st (lentOf f p k q)
-        → (c : List ℕ → List ℕ → Called) → ((k q : List ℕ) → c k q ≡ perform (run im b) (machineOf st (lentOf f p k q))) → answerText (c k q) ≡ startedText s h x
+    pub run-says : saidOf r′ ≡ done → (im : Image) → im ≡ imageWith g′ s → (b : ℕ) → b ≡ h .budget → (st : State) (f p k q : List ℕ)
+        → m′ ≡ machineOf st (lentOf f p k q)
+        → (c : List ℕ → List ℕ → Called) → ((k q : List ℕ) → c k q ≡ perform (run im b) (machineOf st (lentOf f p k q)))
+        → answerText (c k q) ≡ startedText s h x
     run-says d′ im i b n st f p k q is c e =
         let here : c k q ≡ perform (run (imageWith g′ s) (h .budget)) m′ = e k q ∙ rw (is, n, i) refl in
         ap answerText here ∙ names-done s h _ m′ g′ (rw d′ at entered) ∙ named
@@ -122,7 +132,8 @@ nothing-said Reply.Done is = refl
 nothing-said (Reply.Refused why) is = absurd (miss (0 ∷ 1 ∷ []) 2 tt is)
 
 -- the tags of an end: Halt 0, the budget 1, stopped 2, refused 3
-pub run-reported : (end : End) → OneOf (0 ∷ 1 ∷ 2 ∷ []) (tagOf ends.the-type end) → (s : State) → runText (answerOf end) s ≡ reportOf (summaryOf (numberOfEnd end) (pcOfEnd end) (stepsOfEnd end) s) (s .regs)
+pub run-reported : (end : End) → OneOf (0 ∷ 1 ∷ 2 ∷ []) (tagOf ends.the-type end) → (s : State)
+    → runText (answerOf end) s ≡ reportOf (summaryOf (numberOfEnd end) (pcOfEnd end) (stepsOfEnd end) s) (s .regs)
 unfolding answerOf runText
 run-reported (End.Halt pc steps) is s = refl
 run-reported (End.Budget pc steps) is s = refl
@@ -133,5 +144,6 @@ pub written-says : (text before after : List ℕ) (r : ℕ) → Written before 0
 unfolding write
 written-says text before after r w h = (w .ends ∙ zero-add (length text), w .is, h)
 
-pub refusal-says : (k : ℕ) (before after : List ℕ) (r : ℕ) → Written before 0 (refusalOf k) after r → r ≡ 0 + 3 → WritesText before (refusalOf k) after r
+pub refusal-says : (k : ℕ) (before after : List ℕ) (r : ℕ) → Written before 0 (refusalOf k) after r → r ≡ 0 + 3
+    → WritesText before (refusalOf k) after r
 refusal-says k before after r w e = written-says (refusalOf k) before after r w (omega arith)

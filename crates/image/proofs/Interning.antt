@@ -19,7 +19,8 @@ use Rattle.vm.specs.Machine.{Machine, Answer, ended, value, done, refused, Call
 use Rattle.image.specs.Runner.{internOn, internAll}
 
 -- a name that was answered
-named-by : (o : Option Name) (global len : ℕ) → answerOf o ≡ Named.At global len → (name : Name) × (o ≡ some name) × (name .global ≡ global) × (length (name .bytes) ≡ len)
+named-by : (o : Option Name) (global len : ℕ) → answerOf o ≡ Named.At global len
+    → (name : Name) × (o ≡ some name) × (name .global ≡ global) × (length (name .bytes) ≡ len)
 unfolding answerOf
 named-by none global len e = let z : _≡_ {A = ℕ} 0 1 = cc in absurd (omega arith)
 named-by (some name) global len e = (name, refl, cc, cc)
@@ -42,7 +43,8 @@ module _ {s : List ℕ} {m₀ : List ℕ → Machine} {g₀ : List ℕ} {m : Lis
   abbrev names : List Name
   names = namesOf 0 (linesOf s)
 
-  pub interned-all : answerOf (nameOf i s) ≡ Named.Missing → (frames : List ℕ) → record { called = record { answer = done; machine = m frames }; globals = g } ≡ internAll names (m₀ frames) g₀
+  pub interned-all : answerOf (nameOf i s) ≡ Named.Missing → (frames : List ℕ)
+      → record { called = record { answer = done; machine = m frames }; globals = g } ≡ internAll names (m₀ frames) g₀
   unfolding internAll
   interned-all q frames = (rw (nth-none i names (none-by (nameOf i s) q)) at (e .left frames))
 
@@ -57,7 +59,8 @@ module _ {s : List ℕ} {m₀ : List ℕ → Machine} {g₀ : List ℕ} {m : Lis
     pub bytes-long : length (bytesOf (nameOf i s)) ≡ len
     bytes-long = rw bytes-are (here .3)
 
-    module _ (short : length s ≤ 65536) (name : List ℕ) {name′ : List ℕ} (room : 32768 ≤ length name) (laid : name′ ≡ over (bytesOf (nameOf i s)) name) where
+    module _ (short : length s ≤ 65536) (name : List ℕ) {name′ : List ℕ} (room : 32768 ≤ length name)
+        (laid : name′ ≡ over (bytesOf (nameOf i s)) name) where
       within : length (bytesOf (nameOf i s)) ≤ length name
       within = let k = name-short i s in omega arith
 
@@ -77,18 +80,23 @@ module _ {s : List ℕ} {m₀ : List ℕ → Machine} {g₀ : List ℕ} {m : Lis
     abbrev its : List ℕ → Called
     its frames = perform (host (intern (here .0 .bytes))) (m frames)
 
-    turn : (frames : List ℕ) → internOn (its frames .answer) (its frames) g (here .0 .global) (internAll (drop (i + 1) names)) ≡ internAll names (m₀ frames) g₀
+    turn : (frames : List ℕ) → internOn (its frames .answer) (its frames) g (here .0 .global) (internAll (drop (i + 1) names))
+        ≡ internAll names (m₀ frames) g₀
     unfolding internAll
     turn frames = rw (nth-some i names (here .0) (here .1) .1) at (e .left frames)
 
-    answered : (frames : List ℕ) {a : Answer} → its frames .answer ≡ a → internOn a (its frames) g (here .0 .global) (internAll (drop (i + 1) names)) ≡ internAll names (m₀ frames) g₀
-    answered frames p = subst (λ (a : Answer). internOn a (its frames) g (here .0 .global) (internAll (drop (i + 1) names)) ≡ internAll names (m₀ frames) g₀) p (turn frames)
+    answered : (frames : List ℕ) {a : Answer} → its frames .answer ≡ a
+        → internOn a (its frames) g (here .0 .global) (internAll (drop (i + 1) names)) ≡ internAll names (m₀ frames) g₀
+    answered frames p = subst (λ (a : Answer). internOn a (its frames) g (here .0 .global) (internAll (drop (i + 1) names))
+        ≡ internAll names (m₀ frames) g₀) p (turn frames)
 
-    value-on : (frames : List ℕ) (v : ℕ) → its frames .answer ≡ value v → internAll (drop (i + 1) names) (its frames .machine) (set g (here .0 .global) v) ≡ internAll names (m₀ frames) g₀
+    value-on : (frames : List ℕ) (v : ℕ) → its frames .answer ≡ value v
+        → internAll (drop (i + 1) names) (its frames .machine) (set g (here .0 .global) v) ≡ internAll names (m₀ frames) g₀
     unfolding internOn
     value-on frames v p = answered frames p
 
-    ended-on : (frames : List ℕ) (a : Answer) → its frames .answer ≡ a → ((v : ℕ) → a ≡ value v → ⊥) → record { called = its frames; globals = g } ≡ internAll names (m₀ frames) g₀
+    ended-on : (frames : List ℕ) (a : Answer) → its frames .answer ≡ a → ((v : ℕ) → a ≡ value v → ⊥)
+        → record { called = its frames; globals = g } ≡ internAll names (m₀ frames) g₀
     unfolding internOn
     ended-on frames (value v) p n = absurd (n v refl)
     ended-on frames (refused k) p n = answered frames p
@@ -103,12 +111,15 @@ module _ {s : List ℕ} {m₀ : List ℕ → Machine} {g₀ : List ℕ} {m : Lis
       call-is : (frames : List ℕ) → call frames ≡ its frames
       call-is frames = ap (λ (x : List ℕ). perform (host (intern x)) (m frames)) (back ∙ bytes-are)
 
-      value-by : (frames : List ℕ) (v : ℕ) (m′ : Machine) → record { answer = value v; machine = m′ } ≡ call frames → internAll (drop (i + 1) names) m′ (set g global v) ≡ internAll names (m₀ frames) g₀
+      value-by : (frames : List ℕ) (v : ℕ) (m′ : Machine) → record { answer = value v; machine = m′ } ≡ call frames
+          → internAll (drop (i + 1) names) m′ (set g global v) ≡ internAll names (m₀ frames) g₀
       value-by frames v m′ c =
           let is : record { answer = value v; machine = m′ } ≡ its frames = c ∙ call-is frames in
-          ap₂ (λ (x : Machine) (y : ℕ). internAll (drop (i + 1) names) x (set g y v)) (ap (λ (x : Called). x .machine) is) (sym (here .2)) ∙ value-on frames v (sym (ap (λ (x : Called). x .answer) is))
+          ap₂ (λ (x : Machine) (y : ℕ). internAll (drop (i + 1) names) x (set g y v)) (ap (λ (x : Called). x .machine) is) (sym (here .2))
+          ∙ value-on frames v (sym (ap (λ (x : Called). x .answer) is))
 
-      pub interning-next : {r : Reply} {v : ℕ} → r ≡ Reply.Value v → (m′ : List ℕ → Machine) → ((frames : List ℕ) → record { answer = saidOf r; machine = m′ frames } ≡ call frames) → Interning s m₀ g₀ m′ (set g global v) (i + 1)
+      pub interning-next : {r : Reply} {v : ℕ} → r ≡ Reply.Value v → (m′ : List ℕ → Machine)
+          → ((frames : List ℕ) → record { answer = saidOf r; machine = m′ frames } ≡ call frames) → Interning s m₀ g₀ m′ (set g global v) (i + 1)
       unfolding saidOf
       interning-next {r} {v} is m′ c =
           record {
@@ -117,11 +128,13 @@ module _ {s : List ℕ} {m₀ : List ℕ → Machine} {g₀ : List ℕ} {m : Lis
             long = length-set g global v ∙ e .long;
           }
 
-      pub interned-some : (x : List ℕ → Called) → ((frames : List ℕ) → x frames ≡ call frames) → ((frames : List ℕ) (v : ℕ) → x frames .answer ≡ value v → ⊥)
+      pub interned-some : (x : List ℕ → Called) → ((frames : List ℕ) → x frames ≡ call frames)
+          → ((frames : List ℕ) (v : ℕ) → x frames .answer ≡ value v → ⊥)
           → (frames : List ℕ) → record { called = x frames; globals = g } ≡ internAll names (m₀ frames) g₀
       interned-some x c n frames =
           let is : x frames ≡ its frames = c frames ∙ call-is frames in
-          ap (λ (y : Called). record { called = y; globals = g }) is ∙ ended-on frames (its frames .answer) refl (λ v z. n frames v (ap (λ (y : Called). y .answer) is ∙ z))
+          ap (λ (y : Called). record { called = y; globals = g }) is
+          ∙ ended-on frames (its frames .answer) refl (λ v z. n frames v (ap (λ (y : Called). y .answer) is ∙ z))
 
   pub few-names : i ≤ length s
   few-names = let k = e .few in let n = names-in s in omega arith

@@ -9,7 +9,8 @@ use Rattle.memory.specs.Lists.{over}
 use Rattle.memory.proofs.Over.{length-over, take-over}
 use Rattle.gc.specs.Lent.{pageSize}
 use Rattle.text.specs.declared.Head.{Head}
-use Rattle.text.specs.declared.sections.Section.the-variants.{Code, Globals, SwitchFirsts, SwitchEnds, SwitchEntries, LookupFirsts, LookupDefaults, LookupEnds, LookupEntries}
+use Rattle.text.specs.declared.sections.Section.the-variants.{Code, Globals, SwitchFirsts, SwitchEnds, SwitchEntries, LookupFirsts}
+use Rattle.text.specs.declared.sections.Section.the-variants.{LookupDefaults, LookupEnds, LookupEntries}
 use Rattle.text.specs.Sections.{sectionIn}
 use Rattle.program.specs.Image.{tablesOf, imageOf}
 use Rattle.vm.specs.Told.{lentOf}
@@ -45,11 +46,14 @@ zeros-part {n} k room =
 pub image-of-parts : {code globals sf se st lf le lv ld : List ℕ} {words count switches targets lookups values : ℕ} (s : List ℕ)
     → Part (sectionIn Code s) code words → Part (sectionIn Globals s) globals count
     → Part (sectionIn SwitchFirsts s) sf switches → Part (sectionIn SwitchEnds s) se switches → Part (sectionIn SwitchEntries s) st targets
-    → Part (sectionIn LookupFirsts s) lf lookups → Part (sectionIn LookupEnds s) le lookups → Part (sectionIn LookupEntries s) lv values → Part (sectionIn LookupDefaults s) ld lookups
-    → imageOf (take words code) (take count globals) (tablesOf (take switches sf) (take switches se) (take targets st)) (tablesOf (take lookups lf) (take lookups le) (take values lv)) (take lookups ld) ≡ imageIn s
+    → Part (sectionIn LookupFirsts s) lf lookups → Part (sectionIn LookupEnds s) le lookups → Part (sectionIn LookupEntries s) lv values
+    → Part (sectionIn LookupDefaults s) ld lookups
+    → imageOf (take words code) (take count globals) (tablesOf (take switches sf) (take switches se) (take targets st))
+    (tablesOf (take lookups lf) (take lookups le) (take values lv)) (take lookups ld) ≡ imageIn s
 image-of-parts s a b c d e f g h i = rw (a .is, b .is, c .is, d .is, e .is, f .is, g .is, h .is, i .is) refl
 
 pub lent-of-parts : {frames heap slots spare : List ℕ} (h : Head)
-    → Part (replicate (h .frames) 0) frames (h .frames) → Part (replicate (h .pages * pageSize) 0) heap (h .pages * pageSize) → Part (replicate (h .slots) 0) slots (h .slots) → Part (replicate (h .slots) 0) spare (h .slots)
+    → Part (replicate (h .frames) 0) frames (h .frames) → Part (replicate (h .pages * pageSize) 0) heap (h .pages * pageSize)
+    → Part (replicate (h .slots) 0) slots (h .slots) → Part (replicate (h .slots) 0) spare (h .slots)
     → lentOf (take (h .frames) frames) (take (h .pages * pageSize) heap) (take (h .slots) slots) (take (h .slots) spare) ≡ lentFor h
 lent-of-parts h a b c d = rw (a .is, b .is, c .is, d .is) refl

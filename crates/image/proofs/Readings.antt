@@ -7,7 +7,7 @@ use native.Mathlib.Omega.{arith}
 use lib.ListN.{length}
 use lib.Dec.{leb}
 use borrow.Author.Tests.{leb-true}
-use Rattle.anomaly.proofs.Numbers.{both}
+use Rattle.memory.proofs.Tests.{both}
 use Rattle.anomaly.specs.declared.Refusal.{Refusal}
 use Rattle.text.specs.declared.Head.{Head}
 use Rattle.text.specs.declared.Reading.{Reading}

@@ -9,7 +9,7 @@ use Rattle.memory.specs.Rows.{holdLists}
 use Rattle.string.specs.Hash.{mixed, folded, chunks, hashOf}
 use Rattle.string.specs.Payload.{payloadOf, reaches, headed, holds}
 use Rattle.string.specs.Table.{home, probe, lookup, never, filled, placed}
-use Rattle.string.specs.Grow.{read, storedHash, movedOne, moved, enlarged, roomOf, widened, roomy, spared}
+use Rattle.string.specs.Grow.{storedHash, movedOne, moved, roomOf, widened, withRoom, spareAfter}
 use Rattle.string.specs.Sound as Table
 use Rattle.gc.specs.Metadata.{headerOf}
 use Rattle.gc.specs.Pages as Pages
@@ -20,10 +20,13 @@ use Rattle.op.specs.Decode.{decodedBy, decodeOf}
 use Rattle.op.specs.Reach.{checkOf}
 use Rattle.program.specs.Image.{startOf, entriesOf, counts, rising, tablesOk, imageOk, endsInHalt, below, wordTest, wordTests, imageTests, failing}
 use Rattle.program.specs.Effect.{within, effectOf, wordEffect}
-use Rattle.vm.specs.Core.{used, lacking, short, setReg, setPc, setFrames, setLand, setPages, setBytes}
-use Rattle.vm.specs.Run.{provided, forward, addressed, loaded, stored8, returned, took, apply, fetched, unless, limited, step, after, go, root, entered, stored}
+use Rattle.vm.specs.Core.{used, lacking, short, setReg, setPc, setFrames, setMemory, setPages, setBytes}
+use Rattle.vm.specs.Run.{provided, forward, addressed, loaded, stored8, returned, blockTo, apply, fetched, unless, limited, step, after, go}
+use Rattle.vm.specs.Run.{root, entered, stored}
 use Rattle.vm.specs.Names as Names
-use Rattle.vm.specs.Machine.{sizes, landOf, view, withPages, withNames, traced, withFrames, withRegs, ran, idle, runs, hosted, laid, runLeaves, hostLeaves, granted, hostCall, runCall, act, framesOk, heapOk, slotsOk, returnsOk, framesBelong, pagesBelong, namesBelong, tests, tried, perform, firstPage, firstLand, blank, begin, starts, start}
+use Rattle.vm.specs.Machine.{sizes, memoryOf, view, withPages, withNames, traced, withFrames, withRegs, ran, idle, runs, hosted, laid}
+use Rattle.vm.specs.Machine.{runLeaves, hostLeaves, granted, hostCall, runCall, act, framesOk, heapOk, slotsOk, returnsOk, framesBelong}
+use Rattle.vm.specs.Machine.{pagesBelong, namesBelong, testsBy, tests, tried, perform, firstPage, firstMemory, blank, begin, starts, start}
 use Rattle.text.specs.Digits as Digits
 use Rattle.text.specs.Lines as Lines
 use Rattle.text.specs.Text.{restOk, linesOk, textOk, headIn, headOf}
@@ -94,5 +97,17 @@ rows =
     ∷ []
 
 pub all-hold : holdLists rows ≡ true
-unfolding rows holdLists singles naming allocating ninePages digits worked bytesOf valueOf over write same mixed folded chunks hashOf payloadOf reaches headed holds home probe lookup never filled placed read storedHash movedOne moved enlarged roomOf widened roomy spared Table.slotCount Table.activeOk Table.filledIn Table.headerIn Table.headersIn Table.countOk Table.slotsOk Table.soundOf headerOf Pages.growOf Pages.gapOf Pages.holds Pages.block Pages.pushed Pages.fitted Pages.allocated pagesOf numbersOf Heap.soundOf Op.rows decodedBy decodeOf checkOf used lacking short setReg setPc setFrames setLand setPages setBytes startOf entriesOf counts rising tablesOk imageOk endsInHalt below wordTest wordTests imageTests within effectOf wordEffect provided forward addressed loaded stored8 returned took apply fetched unless limited step after go root entered stored Names.filled Names.took Names.allocates Names.boxed Names.entered Names.fresh Names.known Names.interned sizes landOf view withPages withNames traced withFrames withRegs ran idle runs hosted laid runLeaves hostLeaves granted hostCall runCall act framesOk heapOk slotsOk returnsOk framesBelong pagesBelong namesBelong tests failing tried perform firstPage firstLand blank begin starts start Digits.valueOfDigit Digits.allDigits Digits.readOn Digits.numbers Lines.before Lines.linesOf Lines.upTo Lines.countOk Lines.lineOk restOk linesOk textOk headIn headOf adds sectionOf namesOf digitOfValue hexOf endLine registerLine registerLines stateLine reportOf refusalOf roomFor internOn internAll replyText runText internedText startedText imageText answerOf
+unfolding rows holdLists singles naming allocating ninePages digits worked bytesOf valueOf over write same mixed folded chunks hashOf
+    payloadOf reaches headed holds home probe lookup never filled placed storedHash movedOne moved roomOf widened withRoom spareAfter
+    Table.slotCount Table.activeOk Table.filledIn Table.headersIn Table.countOk Table.slotsOk Table.soundOf headerOf
+    Pages.growOf Pages.gapOf Pages.holds Pages.block Pages.pushed Pages.fitted Pages.allocated pagesOf numbersOf Heap.soundOf Op.rows
+    decodedBy decodeOf checkOf used lacking short setReg setPc setFrames setMemory setPages setBytes startOf entriesOf counts rising tablesOk
+    imageOk endsInHalt below wordTest wordTests imageTests within effectOf wordEffect provided forward addressed loaded stored8 returned
+    blockTo apply fetched unless limited step after go root entered stored Names.filled Names.asGiven Names.allocates Names.boxed Names.tabled
+    Names.fresh Names.known Names.interned sizes memoryOf view withPages withNames traced withFrames withRegs ran idle runs hosted laid
+    runLeaves hostLeaves granted hostCall runCall act framesOk heapOk slotsOk returnsOk framesBelong pagesBelong namesBelong tests testsBy failing
+    tried perform firstPage firstMemory blank begin starts start Digits.valueOfDigit Digits.allDigits Digits.readOn Digits.numbers
+    Lines.before Lines.linesOf Lines.upTo Lines.countOk Lines.lineOk restOk linesOk textOk headIn headOf adds sectionOf namesOf digitOfValue
+    hexOf endLine registerLine registerLines stateLine reportOf refusalOf roomFor internOn internAll replyText runText internedText
+    startedText imageText answerOf
 all-hold = refl

@@ -8,7 +8,8 @@ use lib.Dec.{leb}
 use Rattle.memory.specs.Lists.{over}
 use Rattle.gc.specs.Lent.{pageSize}
 use Rattle.text.specs.declared.Head.{Head}
-use Rattle.text.specs.declared.sections.Section.the-variants.{Code, Globals, SwitchFirsts, SwitchEnds, SwitchEntries, LookupFirsts, LookupDefaults, LookupEnds, LookupEntries}
+use Rattle.text.specs.declared.sections.Section.the-variants.{Code, Globals, SwitchFirsts, SwitchEnds, SwitchEntries, LookupFirsts}
+use Rattle.text.specs.declared.sections.Section.the-variants.{LookupDefaults, LookupEnds, LookupEntries}
 use Rattle.text.specs.Lines.{linesOf}
 use Rattle.text.specs.Text.{textOk, headOf}
 use Rattle.text.specs.Sections.{sectionIn}
@@ -74,7 +75,15 @@ internAll (name ∷ names) m g =
 -- ---- the output
 
 abbrev pub summaryOf : ℕ → ℕ → ℕ → State → Summary
-summaryOf e pc steps s = record { end = e; pc = pc; steps = steps; depth = s .depth; pushed = s .gc .pushed; len = s .gc .len; strings = s .strings .len }
+summaryOf e pc steps s = record {
+  end = e;
+  pc = pc;
+  steps = steps;
+  depth = s .depth;
+  pushed = s .gc .pushed;
+  len = s .gc .len;
+  strings = s .strings .len;
+}
 
 -- 'A refusal, of an interning too, is its number alone in two digits'
 unfoldable pub replyText : Answer → List ℕ

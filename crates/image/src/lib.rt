@@ -13,8 +13,7 @@ ghost use Rattle.text.specs.Names.{namesOf};
 ghost use Rattle.text.specs.Sections.{sectionIn};
 ghost use Rattle.program.specs.Image.{imageOf, tablesOf};
 ghost use Rattle.vm.specs.Machine.{start, run};
-ghost use Rattle.vm.specs.Told.{lentOf, machineOf, saidOf, told};
-ghost use Rattle.vm.specs.Told.{answerOf};
+ghost use Rattle.vm.specs.Told.{lentOf, machineOf, answerOf, saidOf, told};
 ghost use Rattle.image.specs.Runner as Runner;
 ghost use Rattle.image.specs.Runner.{imageIn, lentFor, fits, roomFor, internAll, replyText, summaryOf, runText, startedText, imageText, WritesText};
 use anomaly::End;
@@ -35,10 +34,31 @@ use vm::Reply;
 use vm::State;
 use vm::start;
 
+// The runner's own limits of pages, words and frames; the machine's of slots, globals, tables and entries.
+const MAX_PAGES: u64 = 8;
+
+const MAX_WORDS: usize = 4096;
+
+const MAX_FRAMES: usize = 4096;
+
+const MAX_SLOTS: usize = 4096;
+
+const MAX_GLOBALS: usize = 4096;
+
+const MAX_TABLES: usize = 256;
+
+const MAX_ENTRIES: usize = 4096;
+
+const MAX_HEAP: usize = MAX_PAGES as usize * PAGE_SIZE;
+
+// The longest name: a byte for two digits of the longest text.
+const MAX_NAME: usize = text::MAX_LEN / 2;
+
 // The report of a run that was made.
 fn put_run(out: &mut [u8], end: End, state: State) -> usize
     requires { ⌜ longest ≤ length (now out) ⌝ }
-    ensures { λ r. ⌜ WritesText (now (out .entry)) (reportOf (summaryOf (numberOfEnd end) (pcOfEnd end) (stepsOfEnd end) state) (state .regs)) (now (out .exit)) r ⌝ }
+    ensures { λ r. ⌜ WritesText (now (out .entry)) (reportOf (summaryOf (numberOfEnd end) (pcOfEnd end) (stepsOfEnd end) state) (state .regs))
+        (now (out .exit)) r ⌝ }
 {
     let gc = state.gc;
     let strings = state.strings;
@@ -78,8 +98,17 @@ fn intern_names(
     spare: &mut [u64],
     name: &mut [u8],
 ) -> Called
-    requires { ⌜ (length (now input) ≤ 65536) × (length (sectionIn Section.Globals (now input)) ≤ length (now globals)) × (32768 ≤ length (now name)) ⌝ }
-    ensures { λ r. ⌜ ((frames : List ℕ) → record { called = told r (lentOf frames (now (heap .exit)) (now (slots .exit)) (now (spare .exit))); globals = now (globals .exit) } ≡ internAll (namesOf 0 (linesOf (now (input .entry)))) (machineOf state (lentOf frames (now (heap .entry)) (now (slots .entry)) (now (spare .entry)))) (now (globals .entry))) ⌝ }
+    requires { ⌜ (length (now input) ≤ 65536)
+        × (length (sectionIn Section.Globals (now input)) ≤ length (now globals))
+        × (32768 ≤ length (now name)) ⌝ }
+    ensures { λ r. ⌜ ((frames : List ℕ)
+        → record {
+          called = told r (lentOf frames (now (heap .exit)) (now (slots .exit)) (now (spare .exit)));
+          globals = now
+              (globals .exit);
+        }
+        ≡ internAll (namesOf 0 (linesOf (now (input .entry))))
+        (machineOf state (lentOf frames (now (heap .entry)) (now (slots .entry)) (now (spare .entry)))) (now (globals .entry))) ⌝ }
 {
     let mut s = state;
     let mut i: usize = 0;
@@ -112,7 +141,8 @@ fn put_reply(out: &mut [u8], reply: Reply) -> usize
     report::put_refusal(out, 0, why.number())
 }
 
-// An image in parts that are as long as its sections, and buffers as the header asks for.
+// Starts an image, interns its names, runs it and writes the report. Its parts are as long as its sections, the buffers as the header
+// asks for.
 fn rate(
     input: &[u8],
     head: Head,
@@ -132,8 +162,16 @@ fn rate(
     name: &mut [u8],
     out: &mut [u8],
 ) -> usize
-    requires { ⌜ (textOk (now input) ≡ true) × (32768 ≤ length (now name)) × (longest ≤ length (now out)) × (head .budget < 2 ^ 32) × ((imageOf (now code) (now globals) (tablesOf (now «switch_firsts») (now «switch_ends») (now «switch_entries»)) (tablesOf (now «lookup_firsts») (now «lookup_ends») (now «lookup_entries»)) (now defaults)) ≡ imageIn (now input)) × (lentOf (now frames) (now heap) (now slots) (now spare) ≡ lentFor head) ⌝ }
-    ensures { λ r. ⌜ WritesText (now (out .entry)) (startedText (now (input .entry)) head (start (imageIn (now (input .entry))) (head .base) (lentFor head))) (now (out .exit)) r ⌝ }
+    requires { ⌜ (textOk (now input) ≡ true)
+        × (32768 ≤ length (now name))
+        × (longest ≤ length (now out))
+        × (head .budget < 2 ^ 32)
+        × ((imageOf (now code) (now globals) (tablesOf (now «switch_firsts») (now «switch_ends») (now «switch_entries»))
+        (tablesOf (now «lookup_firsts») (now «lookup_ends») (now «lookup_entries»)) (now defaults))
+        ≡ imageIn (now input))
+        × (lentOf (now frames) (now heap) (now slots) (now spare) ≡ lentFor head) ⌝ }
+    ensures { λ r. ⌜ WritesText (now (out .entry))
+        (startedText (now (input .entry)) head (start (imageIn (now (input .entry))) (head .base) (lentFor head))) (now (out .exit)) r ⌝ }
 {
     let begun = start::start(
         head.base,
@@ -185,45 +223,32 @@ struct TableCounts {
     entries: usize,
 }
 
-// The jump tables of a text.
-fn gather_switches(
+// The tables of one kind in a text, by the sections that hold their firsts, ends and entries.
+fn gather_tables(
     input: &[u8],
+    in_firsts: Section,
+    in_ends: Section,
+    in_entries: Section,
     firsts: &mut [u64],
     ends: &mut [u64],
     entries: &mut [u64],
 ) -> TableCounts
-    ensures { λ r. ⌜ (r .tables ≡ length (sectionIn Section.SwitchFirsts (now (input .entry)))) × (r .entries ≡ length (sectionIn Section.SwitchEntries (now (input .entry)))) × (now (firsts .exit) ≡ over (sectionIn Section.SwitchFirsts (now (input .entry))) (now (firsts .entry))) × (now (ends .exit) ≡ over (sectionIn Section.SwitchEnds (now (input .entry))) (now (ends .entry))) × (now (entries .exit) ≡ over (sectionIn Section.SwitchEntries (now (input .entry))) (now (entries .entry))) ⌝ }
+    ensures { λ r. ⌜ (r .tables ≡ length (sectionIn «in_firsts» (now (input .entry))))
+        × (r .entries ≡ length (sectionIn «in_entries» (now (input .entry))))
+        × (now (firsts .exit) ≡ over (sectionIn «in_firsts» (now (input .entry))) (now (firsts .entry)))
+        × (now (ends .exit) ≡ over (sectionIn «in_ends» (now (input .entry))) (now (ends .entry)))
+        × (now (entries .exit) ≡ over (sectionIn «in_entries» (now (input .entry))) (now (entries .entry))) ⌝ }
 {
-    let tables = sections::gather(input, Section::SwitchFirsts, firsts);
-    sections::gather(input, Section::SwitchEnds, ends);
-    let count = sections::gather(input, Section::SwitchEntries, entries);
+    let tables = sections::gather(input, in_firsts, firsts);
+    sections::gather(input, in_ends, ends);
+    let count = sections::gather(input, in_entries, entries);
     TableCounts {
         tables,
         entries: count,
     }
 }
 
-// The lookup tables of a text.
-fn gather_lookups(
-    input: &[u8],
-    firsts: &mut [u64],
-    ends: &mut [u64],
-    entries: &mut [u64],
-    defaults: &mut [u64],
-) -> TableCounts
-    ensures { λ r. ⌜ (r .tables ≡ length (sectionIn Section.LookupFirsts (now (input .entry)))) × (r .entries ≡ length (sectionIn Section.LookupEntries (now (input .entry)))) × (now (firsts .exit) ≡ over (sectionIn Section.LookupFirsts (now (input .entry))) (now (firsts .entry))) × (now (ends .exit) ≡ over (sectionIn Section.LookupEnds (now (input .entry))) (now (ends .entry))) × (now (entries .exit) ≡ over (sectionIn Section.LookupEntries (now (input .entry))) (now (entries .entry))) × (now (defaults .exit) ≡ over (sectionIn Section.LookupDefaults (now (input .entry))) (now (defaults .entry))) ⌝ }
-{
-    let tables = sections::gather(input, Section::LookupFirsts, firsts);
-    sections::gather(input, Section::LookupEnds, ends);
-    let count = sections::gather(input, Section::LookupEntries, entries);
-    sections::gather(input, Section::LookupDefaults, defaults);
-    TableCounts {
-        tables,
-        entries: count,
-    }
-}
-
-// 10, of what the runner has no room for.
+// Whether the runner has room for an image; if not, the answer is 10.
 fn room_for(
     head: Head,
     words: usize,
@@ -233,41 +258,49 @@ fn room_for(
 ) -> bool
     ensures { λ r. ⌜ r ≡ fits head words globals switches lookups ⌝ }
 {
-    ((head.pages <= 8) & ((head.frames <= 4096) & (head.slots <= 4096)))
-        & (((words <= 4096) & (globals <= 4096))
-            & (((switches.tables <= 256) & (switches.entries <= 4096))
-                & ((lookups.tables <= 256) & (lookups.entries <= 4096))))
+    ((head.pages <= MAX_PAGES)
+        & ((head.frames <= MAX_FRAMES as u64) & (head.slots <= MAX_SLOTS as u64)))
+        & (((words <= MAX_WORDS) & (globals <= MAX_GLOBALS))
+            & (((switches.tables <= MAX_TABLES) & (switches.entries <= MAX_ENTRIES))
+                & ((lookups.tables <= MAX_TABLES) & (lookups.entries <= MAX_ENTRIES))))
 }
 
 // An image gathered into buffers of the runner's limits, and rated.
 fn answer_image(input: &[u8], head: Head, out: &mut [u8]) -> usize
     requires { ⌜ (textOk (now input) ≡ true) × (head ≡ headOf (now input)) × (longest ≤ length (now out)) ⌝ }
-    ensures { λ r. ⌜ WritesText (now (out .entry)) (imageText (roomFor head (now (input .entry))) (now (input .entry)) head) (now (out .exit)) r ⌝ }
+    ensures { λ r. ⌜ WritesText (now (out .entry)) (imageText (roomFor head (now (input .entry))) (now (input .entry)) head) (now (out .exit))
+        r ⌝ }
 {
-    let mut code = [0u64; 4096];
-    let mut globals = [0u64; 4096];
-    let mut switch_firsts = [0u64; 256];
-    let mut switch_ends = [0u64; 256];
-    let mut switch_entries = [0u64; 4096];
-    let mut lookup_firsts = [0u64; 256];
-    let mut lookup_ends = [0u64; 256];
-    let mut lookup_entries = [0u64; 4096];
-    let mut defaults = [0u64; 256];
+    let mut code = [0u64; MAX_WORDS];
+    let mut globals = [0u64; MAX_GLOBALS];
+    let mut switch_firsts = [0u64; MAX_TABLES];
+    let mut switch_ends = [0u64; MAX_TABLES];
+    let mut switch_entries = [0u64; MAX_ENTRIES];
+    let mut lookup_firsts = [0u64; MAX_TABLES];
+    let mut lookup_ends = [0u64; MAX_TABLES];
+    let mut lookup_entries = [0u64; MAX_ENTRIES];
+    let mut defaults = [0u64; MAX_TABLES];
     let words = sections::gather(input, Section::Code, &mut code);
     let count = sections::gather(input, Section::Globals, &mut globals);
-    let switches = gather_switches(
+    let switches = gather_tables(
         input,
+        Section::SwitchFirsts,
+        Section::SwitchEnds,
+        Section::SwitchEntries,
         &mut switch_firsts,
         &mut switch_ends,
         &mut switch_entries,
     );
-    let lookups = gather_lookups(
+    let lookups = gather_tables(
         input,
+        Section::LookupFirsts,
+        Section::LookupEnds,
+        Section::LookupEntries,
         &mut lookup_firsts,
         &mut lookup_ends,
         &mut lookup_entries,
-        &mut defaults,
     );
+    sections::gather(input, Section::LookupDefaults, &mut defaults);
     if !room_for(head, words, count, switches, lookups) {
         return report::put_refusal(out, 0, Refusal::SIZE);
     }
@@ -278,11 +311,11 @@ fn answer_image(input: &[u8], head: Head, out: &mut [u8]) -> usize
     let frame_count = head.frames as usize;
     let heap_size = head.pages as usize * PAGE_SIZE;
     let slot_count = head.slots as usize;
-    let mut frames = [0u64; 4096];
-    let mut heap = [0u8; 32768];
-    let mut slots = [0u64; 4096];
-    let mut spare = [0u64; 4096];
-    let mut name = [0u8; 32768];
+    let mut frames = [0u64; MAX_FRAMES];
+    let mut heap = [0u8; MAX_HEAP];
+    let mut slots = [0u64; MAX_SLOTS];
+    let mut spare = [0u64; MAX_SLOTS];
+    let mut name = [0u8; MAX_NAME];
     rate(
         input,
         head,

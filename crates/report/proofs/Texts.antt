@@ -30,7 +30,8 @@ module _ (before : List ℕ) (at count v : ℕ) where
   pub digits-start : Digits before at count v count at before
   digits-start = record { place = refl; few = omega arith; rest = refl; long = refl }
 
-  pub digits-end : (i left : ℕ) (out : List ℕ) → Digits before at count v left i out → left ≤ 0 → Written before at (hexOf count v) out i × (i ≡ at + count)
+  pub digits-end : (i left : ℕ) (out : List ℕ) → Digits before at count v left i out → left ≤ 0
+      → Written before at (hexOf count v) out i × (i ≡ at + count)
   unfolding hexOf
   digits-end i left out d h =
       let z : left ≡ 0 = omega arith in

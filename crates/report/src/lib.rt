@@ -76,7 +76,8 @@ fn put_register(out: &mut [u8], at: usize, number: usize, value: u64) -> usize
 
 fn put_registers(out: &mut [u8], at: usize, regs: &[u64]) -> usize
     requires { ⌜ at + 19 * length (now regs) ≤ length (now out) ⌝ }
-    ensures { λ r. ⌜ Written (now (out .entry)) at (registerLines 0 (now (regs .entry))) (now (out .exit)) r × (r ≤ at + 19 * length (now (regs .entry))) ⌝ }
+    ensures { λ r. ⌜ Written (now (out .entry)) at (registerLines 0 (now (regs .entry))) (now (out .exit)) r
+        × (r ≤ at + 19 * length (now (regs .entry))) ⌝ }
 {
     let mut i: usize = 0;
     let mut place = at;

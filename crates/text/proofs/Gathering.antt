@@ -15,7 +15,8 @@ use Rattle.text.specs.Digits.{field, numbers}
 use Rattle.text.specs.Lines.{linesOf, kindOf}
 use Rattle.text.specs.Sections.{ofKind, adds, sectionOf, sectionIn}
 use Rattle.text.specs.declared.sections.Section.{Section}
-use Rattle.text.specs.declared.sections.Section.the-variants.{Code, Globals, SwitchFirsts, SwitchEnds, SwitchEntries, LookupFirsts, LookupDefaults, LookupEnds, LookupEntries}
+use Rattle.text.specs.declared.sections.Section.the-variants.{Code, Globals, SwitchFirsts, SwitchEnds, SwitchEntries, LookupFirsts}
+use Rattle.text.specs.declared.sections.Section.the-variants.{LookupDefaults, LookupEnds, LookupEntries}
 use Rattle.text.proofs.Splitting.{Ends, lineAt, to-line, to-cut, to-none, length-line, payload-at}
 
 -- ---- one number, or none
@@ -63,7 +64,8 @@ pub record Putting (p : List ℕ) (width : ℕ) (xs buf₀ : List ℕ) (n : ℕ)
   pub long : length buf ≡ length buf₀
 
 module _ (p : List ℕ) (width : ℕ) (buf₀ : List ℕ) (n : ℕ) where
-  pub putting-start : (here : Bool) (from left : ℕ) → left ≡ cond here ((length p - from) / width) 0 → Putting p width (entries here from width p) buf₀ n buf₀ left from n
+  pub putting-start : (here : Bool) (from left : ℕ) → left ≡ cond here ((length p - from) / width) 0
+      → Putting p width (entries here from width p) buf₀ n buf₀ left from n
   putting-start here from left h =
       record {
         room = rw h (count-few here from width p);
@@ -82,7 +84,8 @@ module _ (p : List ℕ) (width : ℕ) (buf₀ : List ℕ) (n : ℕ) where
     pub putting-room : 0 < left → 0 < width → at + width ≤ length p
     putting-room h w = omega (arith, g .room, one-less h)
 
-    pub putting-next : 0 < left → 0 < width → (v r : ℕ) (after : List ℕ) → v ≡ field at width p → Written buf m (v ∷ []) after r → length after ≡ length buf →
+    pub putting-next : 0 < left → 0 < width → (v r : ℕ) (after : List ℕ) → v ≡ field at width p → Written buf m (v ∷ []) after r
+        → length after ≡ length buf →
         Putting p width xs buf₀ n after (left - 1) (at + width) r
     unfolding numbers
     putting-next h w v r after is a kept =
@@ -140,7 +143,8 @@ module _ (s : List ℕ) (at e b : ℕ) (ends : Ends s at e) (begins : b ≡ at +
   payload-long = rw (← payload-at s at e b begins, length-drop, length-line s at e ends) (omega arith)
 
   -- a count of entries with those of the line
-  pub entries-fit : (here : Bool) (from width count more : ℕ) → count ≤ at → more ≡ cond here ((length (lineAt s b e) - from) / width) 0 → count + more ≤ e
+  pub entries-fit : (here : Bool) (from width count more : ℕ) → count ≤ at → more ≡ cond here ((length (lineAt s b e) - from) / width) 0
+      → count + more ≤ e
   entries-fit here from width count more h is =
       omega (arith, is, length-entries here from width (lineAt s b e), entries-few here from width (lineAt s b e), payload-long, ends .0)
 
@@ -150,7 +154,15 @@ module _ (s : List ℕ) (at e b : ℕ) (ends : Ends s at e) (begins : b ≡ at +
 module _ (s : List ℕ) (section : Section) (buf₀ : List ℕ) where
   pub gather-start : Gathered s section buf₀ buf₀ 0 0 0 0
   unfolding write
-  gather-start = record { within = omega arith; few-targets = omega arith; few-values = omega arith; few = omega arith; count = omega arith; rest = refl; long = refl }
+  gather-start = record {
+    within = omega arith;
+    few-targets = omega arith;
+    few-values = omega arith;
+    few = omega arith;
+    count = omega arith;
+    rest = refl;
+    long = refl;
+  }
 
   module _ (buf : List ℕ) (targets values n at : ℕ) (g : Gathered s section buf₀ buf targets values n at) where
     pub gather-end : length s ≤ at → (n ≡ length (sectionIn section s)) × (buf ≡ over (sectionIn section s) buf₀)

@@ -44,7 +44,11 @@ size-names g Lines.none = omega arith
 size-names g cut = omega arith
 size-names g (line l more) =
     rw length-append
-    (omega (arith, either (eqb (kindOf l) 5) (named g (bytesIn (payloadOf l))), size-names (g + length (adds Globals 0 0 (kindOf l) (payloadOf l))) more))
+    (omega (
+      arith,
+      either (eqb (kindOf l) 5) (named g (bytesIn (payloadOf l))),
+      size-names (g + length (adds Globals 0 0 (kindOf l) (payloadOf l))) more,
+    ))
   where
     either : (here : Bool) (name : Name) → length (cond here (name ∷ []) []) ≤ 1
     either true name = omega arith
@@ -106,7 +110,8 @@ name-short i s = either (nameOf i s) (λ name h. omega (arith, size-name i 0 (li
 
 -- ---- a name's global stands among the globals
 
-pub global-within : (i g t v : ℕ) (lines : Lines) (name : Name) → nth i (namesOf g lines) ≡ some name → name .global < g + length (sectionOf Globals t v lines)
+pub global-within : (i g t v : ℕ) (lines : Lines) (name : Name) → nth i (namesOf g lines) ≡ some name
+    → name .global < g + length (sectionOf Globals t v lines)
 unfolding namesOf sectionOf nth
 global-within i g t v Lines.none name h = absurd (impossible name h)
 global-within i g t v cut name h = absurd (impossible name h)

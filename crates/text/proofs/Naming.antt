@@ -10,7 +10,7 @@ use native.Mathlib.Nat.{sub-zero}
 use native.Mathlib.Omega.{arith}
 use borrow.Author.Tests.{eqb-true}
 use Rattle.memory.specs.Lists.{over, write, Written}
-use Rattle.anomaly.proofs.Numbers.{both}
+use Rattle.memory.proofs.Tests.{both}
 use Rattle.text.specs.Digits.{field}
 use Rattle.text.specs.Lines.{linesOf, kindOf, payloadOf}
 use Rattle.text.specs.Sections.{adds}
@@ -33,7 +33,8 @@ module _ (p out₀ : List ℕ) where
   pub bytes-start : Putting p 2 (bytesIn p) out₀ 0 out₀ (length p / 2) 0 0
   bytes-start = rw all-entries at (putting-start p 2 out₀ 0 true 0 (length p / 2) (rw sub-zero))
 
-  pub bytes-end : (out : List ℕ) (left at n : ℕ) → Putting p 2 (bytesIn p) out₀ 0 out left at n → left ≤ 0 → (n ≡ length (bytesIn p)) × (out ≡ over (bytesIn p) out₀)
+  pub bytes-end : (out : List ℕ) (left at n : ℕ) → Putting p 2 (bytesIn p) out₀ 0 out left at n → left ≤ 0
+      → (n ≡ length (bytesIn p)) × (out ≡ over (bytesIn p) out₀)
   unfolding write
   bytes-end out left at n g h =
       let a : Written out₀ 0 (bytesIn p) out n = putting-end p 2 out₀ 0 (bytesIn p) out left at n g h in
@@ -41,7 +42,8 @@ module _ (p out₀ : List ℕ) where
 
 -- ---- a name that was found
 
-pub found-at : (s : List ℕ) (i : ℕ) (spot : Spot) (global start end : ℕ) → Found s i spot → spot ≡ Spot.At global start end → Found s i (Spot.At global start end)
+pub found-at : (s : List ℕ) (i : ℕ) (spot : Spot) (global start end : ℕ) → Found s i spot → spot ≡ Spot.At global start end
+    → Found s i (Spot.At global start end)
 found-at s i spot global start end found is = rw is at found
 
 -- ---- names, line by line
@@ -92,7 +94,8 @@ module _ (s : List ℕ) (i : ℕ) where
       seek-cut h k = sym (rw (to-cut s at e ends h k) at (g .rest))
 
       module _ (h : e < length s) (k : ℕ) (kind : k ≡ kindOf (lineAt s at e)) where
-        pub seek-here : (eqb k 5 && eqb left 0) ≡ true → (b : ℕ) → b ≡ at + min 2 (e - at) → nameOf i s ≡ some (named globals (bytesIn (lineAt s b e)))
+        pub seek-here : (eqb k 5 && eqb left 0) ≡ true → (b : ℕ) → b ≡ at + min 2 (e - at)
+            → nameOf i s ≡ some (named globals (bytesIn (lineAt s b e)))
         unfolding namesOf nth
         seek-here t b begins =
             let five = both (eqb k 5) (eqb left 0) t .0 in

@@ -45,23 +45,21 @@ module _ (p : List ℕ) (from width : ℕ) where
     pub number-fits : 0 < left → width ≤ 16 → w < 2 ^ 60
     number-fits h k = lt-of-lt-of-le (g .small) (pow-mono {i = 4 * (width - left)} {j = 60} (omega arith))
 
-    narrow : w < 2 ^ (4 * width)
-    narrow = lt-of-lt-of-le (g .small) (pow-mono {i = 4 * (width - left)} {j = 4 * width} (omega arith))
-
-    pub number-short : length p ≤ i → (w ≡ field from width p) × (w < 2 ^ (4 * width))
+    pub number-short : length p ≤ i → w ≡ field from width p
     unfolding readOn
-    number-short h = (rw (drop-of-length-le p h, take-nil) at (g .rest), narrow)
+    number-short h = rw (drop-of-length-le p h, take-nil) at (g .rest)
 
-    pub number-end : left ≤ 0 → (w ≡ field from width p) × (w < 2 ^ (4 * width))
+    pub number-end : left ≤ 0 → w ≡ field from width p
     unfolding readOn
-    number-end h = let z : left ≡ 0 = omega arith in (rw z at (g .rest), narrow)
+    number-end h = let z : left ≡ 0 = omega arith in rw z at (g .rest)
 
     pub number-next : (d next : ℕ) → 0 < left → next ≡ left - 1 → i < length p → d ≡ valueOfDigit (getD p i 0) →
         Partly p from width (i + 1) next (w * 16 + d % 16)
     unfolding readOn
     number-next d next h n within here =
         let z : left ≡ suc next = omega arith in
-        let rest : readOn (w * 16 + valueOfDigit (getD p i 0) % 16) (part (suc i) next p) ≡ field from width p = rw (z, drop-cons p i 0 within) at (g .rest) in
+        let rest : readOn (w * 16 + valueOfDigit (getD p i 0) % 16) (part (suc i) next p)
+        ≡ field from width p = rw (z, drop-cons p i 0 within) at (g .rest) in
         record {
           few = omega (arith, g .few);
           small = rw (four width left next z (g .few), pow-add 2 (4 * (width - left)) 4) (digits-lt (g .small) (omega arith));

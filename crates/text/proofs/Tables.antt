@@ -10,7 +10,8 @@ use native.Mathlib.Omega.{arith}
 use Rattle.text.specs.Lines.{Lines, none, cut, line, linesOf, kindOf, payloadOf}
 use Rattle.text.specs.Sections.{targetsIn, valuesIn, adds, targetsWith, valuesWith, sectionOf, sectionIn}
 use Rattle.text.specs.declared.sections.Section.{Section}
-use Rattle.text.specs.declared.sections.Section.the-variants.{SwitchFirsts, SwitchEnds, SwitchEntries, LookupFirsts, LookupDefaults, LookupEnds, LookupEntries}
+use Rattle.text.specs.declared.sections.Section.the-variants.{SwitchFirsts, SwitchEnds, SwitchEntries, LookupFirsts, LookupDefaults}
+use Rattle.text.specs.declared.sections.Section.the-variants.{LookupEnds, LookupEntries}
 use Rattle.text.proofs.Naming.{one}
 
 -- ---- sections of one number a table
@@ -45,7 +46,8 @@ lookup-defaults-firsts s = alike LookupDefaults LookupFirsts (λ t v k p. one (e
 -- where it stands on, keeps
 module _ (rises : ℕ → List ℕ → ℕ → Type 0) (none-rise : (n : ℕ) → rises n [] n)
     (more-rise : (from end to : ℕ) (ends : List ℕ) → from ≤ end → rises end ends to → rises from (end ∷ ends) to) where
-  one-more : (here : Bool) (n : ℕ) (entries more ends : List ℕ) → rises (n + length (cond here entries [])) ends (n + length (cond here entries []) + length more) →
+  one-more : (here : Bool) (n : ℕ) (entries more ends : List ℕ)
+      → rises (n + length (cond here entries [])) ends (n + length (cond here entries []) + length more) →
       rises n (cond here ((n + length (cond here entries [])) ∷ []) [] ++ ends) (n + length (cond here entries [] ++ more))
   one-more true n entries more ends h = rw (length-append entries more, ← add-assoc) (more-rise n (n + length entries) _ ends (omega arith) h)
   one-more false n entries more ends h = rw add-zero at h
@@ -70,9 +72,11 @@ module _ (rises : ℕ → List ℕ → ℕ → Type 0) (none-rise : (n : ℕ) �
   pub switch-ends-rise : (s : List ℕ) → rises 0 (sectionIn SwitchEnds s) (length (sectionIn SwitchEntries s))
   unfolding adds
   switch-ends-rise s =
-      rw zero-add at (rise SwitchEnds SwitchEntries 3 (λ p. targetsIn p) (λ t v. t) (λ t v k p. refl) (λ t v k p. refl) (λ t v k p. refl) 0 0 (linesOf s))
+      rw zero-add at (rise SwitchEnds SwitchEntries 3 (λ p. targetsIn p) (λ t v. t) (λ t v k p. refl) (λ t v k p. refl) (λ t v k p. refl) 0
+      0 (linesOf s))
 
   pub lookup-ends-rise : (s : List ℕ) → rises 0 (sectionIn LookupEnds s) (length (sectionIn LookupEntries s))
   unfolding adds
   lookup-ends-rise s =
-      rw zero-add at (rise LookupEnds LookupEntries 4 (λ p. valuesIn p) (λ t v. v) (λ t v k p. refl) (λ t v k p. refl) (λ t v k p. refl) 0 0 (linesOf s))
+      rw zero-add at (rise LookupEnds LookupEntries 4 (λ p. valuesIn p) (λ t v. v) (λ t v k p. refl) (λ t v k p. refl) (λ t v k p. refl) 0 0
+      (linesOf s))

@@ -17,7 +17,8 @@ use Rattle.text.specs.Sections.{adds, sectionOf, sectionIn}
 use Rattle.text.specs.Names.{Name, namesOf, nth, nameOf}
 use Rattle.text.specs.declared.Reading.{Reading}
 use Rattle.text.specs.declared.Reading.the-variants.{Image, Refused}
-use Rattle.text.specs.declared.sections.Section.the-variants.{Code, Globals, SwitchFirsts, SwitchEnds, SwitchEntries, LookupFirsts, LookupDefaults, LookupEnds, LookupEntries}
+use Rattle.text.specs.declared.sections.Section.the-variants.{Code, Globals, SwitchFirsts, SwitchEnds, SwitchEntries, LookupFirsts}
+use Rattle.text.specs.declared.sections.Section.the-variants.{LookupDefaults, LookupEnds, LookupEntries}
 
 -- a line of n digits, written as one number, and its line feed
 unfoldable pub digits : ℕ → ℕ → List ℕ
@@ -91,5 +92,6 @@ rows =
     ∷ []
 
 pub all-hold : holdLists rows ≡ true
-unfolding rows holdLists same digits worked everyKind told toldName valueOfDigit allDigits readOn numbers Lines.before Lines.linesOf Lines.upTo Lines.countOk Lines.lineOk restOk linesOk textOk headIn headOf readOf adds sectionOf namesOf nth
+unfolding rows holdLists same digits worked everyKind told toldName valueOfDigit allDigits readOn numbers Lines.before Lines.linesOf
+    Lines.upTo Lines.countOk Lines.lineOk restOk linesOk textOk headIn headOf readOf adds sectionOf namesOf nth
 all-hold = refl

@@ -34,7 +34,8 @@ unfoldable pub namesOf : ℕ → Lines → List Name
 namesOf globals Lines.none = []
 namesOf globals cut = []
 namesOf globals (line l more) =
-    cond (eqb (kindOf l) 5) (named globals (bytesIn (payloadOf l)) ∷ []) [] ++ namesOf (globals + length (adds Globals 0 0 (kindOf l) (payloadOf l))) more
+    cond (eqb (kindOf l) 5) (named globals (bytesIn (payloadOf l)) ∷ []) []
+    ++ namesOf (globals + length (adds Globals 0 0 (kindOf l) (payloadOf l))) more
 
 unfoldable pub nth : ℕ → List Name → Option Name
 nth i [] = none

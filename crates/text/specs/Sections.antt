@@ -7,7 +7,8 @@ use lib.Dec.{eqb}
 use Rattle.text.specs.Digits.{field, numbers}
 use Rattle.text.specs.Lines.{Lines, none, cut, line, linesOf, kindOf, payloadOf}
 use Rattle.text.specs.declared.sections.Section.{Section}
-use Rattle.text.specs.declared.sections.Section.the-variants.{Code, Globals, SwitchFirsts, SwitchEnds, SwitchEntries, LookupFirsts, LookupDefaults, LookupEnds, LookupEntries}
+use Rattle.text.specs.declared.sections.Section.the-variants.{Code, Globals, SwitchFirsts, SwitchEnds, SwitchEntries, LookupFirsts}
+use Rattle.text.specs.declared.sections.Section.the-variants.{LookupDefaults, LookupEnds, LookupEntries}
 
 -- numbers that only a line of a kind gives
 abbrev pub ofKind : ℕ → ℕ → List ℕ → List ℕ

@@ -1,6 +1,6 @@
 // Hexadecimal digits, lower case, highest first.
 ghost use mathlib.Core.Path.{_≡_};
-ghost use Prim.Native.Nat.{_≤_, _<_, _^_, _*_};
+ghost use Prim.Native.Nat.{_≤_};
 ghost use Rattle.text.specs.Digits.{valueOfDigit, allDigits, field};
 
 // What a letter's byte is above its value.
@@ -43,7 +43,7 @@ pub fn all_digits(s: &[u8]) -> bool
 // The number of `width` digits that starts at digit `from`, or of as many as there are.
 pub fn number(p: &[u8], from: usize, width: usize) -> u64
     requires { ⌜ width ≤ 16 ⌝ }
-    ensures { λ r. ⌜ (r ≡ field from width (now (p .entry))) × (r < 2 ^ (4 * width)) ⌝ }
+    ensures { λ r. ⌜ r ≡ field from width (now (p .entry)) ⌝ }
 {
     let mut w: u64 = 0;
     let mut i = from;

@@ -99,7 +99,8 @@ fn put_bytes(p: &[u8], out: &mut [u8]) -> usize
 // The name of an image that `i` names stand before, its bytes laid over a buffer from its start, as
 // far as it goes.
 pub fn name(s: &[u8], i: usize, out: &mut [u8]) -> Named
-    ensures { λ r. ⌜ (r ≡ answerOf (nameOf i (now (s .entry)))) × (now (out .exit) ≡ over (bytesOf (nameOf i (now (s .entry)))) (now (out .entry))) ⌝ }
+    ensures { λ r. ⌜ (r ≡ answerOf (nameOf i (now (s .entry))))
+        × (now (out .exit) ≡ over (bytesOf (nameOf i (now (s .entry)))) (now (out .entry))) ⌝ }
 {
     match find(s, i) {
         Spot::At { global, start, end } => {

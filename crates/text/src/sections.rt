@@ -63,7 +63,8 @@ fn entry_count(here: bool, len: usize, from: usize, width: usize) -> usize
 // The numbers of `width` digits behind the first `from` digits of a payload, if `here`.
 fn put_entries(here: bool, p: &[u8], from: usize, width: usize, buf: &mut [u64], n: usize) -> usize
     requires { ⌜ (0 < width) × (width ≤ 16) × (n + length (now p) + 1 < 2 ^ 64) ⌝ }
-    ensures { λ r. ⌜ Written (now (buf .entry)) n (cond here (numbers width ((length (now (p .entry)) - from) / width) (drop from (now (p .entry)))) []) (now (buf .exit)) r ⌝ }
+    ensures { λ r. ⌜ Written (now (buf .entry)) n
+        (cond here (numbers width ((length (now (p .entry)) - from) / width) (drop from (now (p .entry)))) []) (now (buf .exit)) r ⌝ }
 {
     let mut left = entry_count(here, p.len(), from, width);
     let mut at = from;
@@ -110,7 +111,8 @@ fn add_line(
 // One section of a text, laid over a buffer from its start, as far as it goes; how many numbers it
 // has.
 pub fn gather(s: &[u8], section: Section, buf: &mut [u64]) -> usize
-    ensures { λ r. ⌜ (r ≡ length (sectionIn section (now (s .entry)))) × (now (buf .exit) ≡ over (sectionIn section (now (s .entry))) (now (buf .entry))) ⌝ }
+    ensures { λ r. ⌜ (r ≡ length (sectionIn section (now (s .entry))))
+        × (now (buf .exit) ≡ over (sectionIn section (now (s .entry))) (now (buf .entry))) ⌝ }
 {
     let mut targets: usize = 0;
     let mut values: usize = 0;

@@ -8,6 +8,8 @@
 // SOURCE has five characters: `rust ` for an answer that the original gave, `paper` for one that document 01 gives.
 ghost use mathlib.Core.Path.{_≡_};
 ghost use lib.ListN.{length};
+ghost use Rattle.memory.specs.Lists.{same};
+ghost use Rattle.image.specs.Runner.{answerOf};
 use libc::STDIN_FILENO;
 use libc::STDOUT_FILENO;
 use report::LONGEST;
@@ -89,16 +91,16 @@ impl Tally {
     }
 }
 
-fn is_same(out: &[u8; LONGEST], n: usize, stored: &[u8]) -> bool {
-    if n > LONGEST {
+// Whether two byte strings are equal.
+fn is_same(a: &[u8], b: &[u8]) -> bool
+    ensures { λ r. ⌜ r ≡ same (now (a .entry)) (now (b .entry)) ⌝ }
+{
+    if a.len() != b.len() {
         return false;
     }
-    if n != stored.len() {
-        return false;
-    }
-    let mut i = 0;
-    while i < n {
-        if out[i] != stored[i] {
+    let mut i: usize = 0;
+    while i < a.len() {
+        if a[i] != b[i] {
             return false;
         }
         i += 1;
@@ -106,10 +108,13 @@ fn is_same(out: &[u8; LONGEST], n: usize, stored: &[u8]) -> bool {
     true
 }
 
-fn agrees(input: &[u8], stored: &[u8]) -> bool {
+// Whether the runner's output for an image is the stored one.
+fn agrees(input: &[u8], stored: &[u8]) -> bool
+    ensures { λ r. ⌜ r ≡ same (answerOf (now (input .entry))) (now (stored .entry)) ⌝ }
+{
     let mut out = [0u8; LONGEST];
     let n = image::answer(input, &mut out);
-    is_same(&out, n, stored)
+    is_same(&out[..n], stored)
 }
 
 // A line that begins with this byte twice and a space.

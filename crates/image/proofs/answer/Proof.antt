@@ -22,7 +22,8 @@ unfolding answerOf
 returns c =
     let enum-told = c .before .before in
     let read = enum-told .before .before in
-    rw (read-nothing _ _ (sym (read .read .ensures) ∙ enum-told .enum-told .given .1)) (refusal-says 19 _ _ _ (c .put-refusal .ensures .0) (c .put-refusal .ensures .1))
+    rw (read-nothing _ _ (sym (read .read .ensures) ∙ enum-told .enum-told .given .1))
+    (refusal-says 19 _ _ _ (c .put-refusal .ensures .0) (c .put-refusal .ensures .1))
 
 answer-image-requires : tie.Need-answer-image-requires
 answer-image-requires c κs = let head = c .before .before in (read head .0, read head .1, search needs)

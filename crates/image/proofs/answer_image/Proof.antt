@@ -7,7 +7,8 @@ use lib.ListN.{replicate}
 use borrow.Author.Tests.{not-true, not-false}
 use Rattle.gc.specs.Lent.{pageSize}
 use Rattle.text.specs.declared.Head.{Head}
-use Rattle.text.specs.declared.sections.Section.the-variants.{Code, Globals, SwitchFirsts, SwitchEnds, SwitchEntries, LookupFirsts, LookupDefaults, LookupEnds, LookupEntries}
+use Rattle.text.specs.declared.sections.Section.the-variants.{Code, Globals, SwitchFirsts, SwitchEnds, SwitchEntries, LookupFirsts}
+use Rattle.text.specs.declared.sections.Section.the-variants.{LookupDefaults, LookupEnds, LookupEntries}
 use Rattle.text.specs.Sections.{sectionIn}
 use Rattle.text.proofs.Numbers.{budget-small}
 use Rattle.text.proofs.Tables.{switch-ends-firsts, lookup-ends-firsts, lookup-defaults-firsts}
@@ -21,27 +22,32 @@ use Rattle.image.proofs.answer_image.Tie as tie
 
 -- ---- places: what was lent, and what was gathered
 
-abbrev lookups-at : tie.After-room-for → tie.After-gather-lookups
-lookups-at c = c .before .before .before .before .before
+abbrev defaults-at : tie.After-room-for → tie.After-gather3
+defaults-at c = c .before .before
 
-abbrev switches-at : tie.After-room-for → tie.After-gather-switches
-switches-at c = c .before .before .before .before .before .before .before .before .before .before .before .before .before
+abbrev lookups-at : tie.After-room-for → tie.After-gather-tables2
+lookups-at c = c .before .before .before .before .before .before .before
+
+abbrev switches-at : tie.After-room-for → tie.After-gather-tables
+switches-at c = c .before .before .before .before .before .before .before .before .before .before .before .before .before .before
 
 abbrev globals-at : tie.After-room-for → tie.After-gather2
-globals-at c = c .before .before .before .before .before .before .before .before .before .before .before .before .before .before .before .before .before .before
+globals-at c = switches-at c .before .before .before .before .before
 
 abbrev code-at : tie.After-room-for → tie.After-gather
-code-at c = c .before .before .before .before .before .before .before .before .before .before .before .before .before .before .before .before .before .before .before .before .before
+code-at c = globals-at c .before .before .before
 
 abbrev start-of : tie.After-room-for → tie.Start
-start-of c = c .before .before .before .before .before .before .before .before .before .before .before .before .before .before .before .before .before .before .before .before .before .before .before .before .before
+start-of c = code-at c .before .before .before .before
 
 -- the test of 10 is that of the text
 tested : (c : tie.After-room-for) → roomFor (start-of c .args .head) (start-of c .args .input .now) ≡ c .room-for .result
 tested c =
     let switches = switches-at c in
     let lookups = lookups-at c in
-    counted _ _ _ _ _ (start-of c .args .input .now) (code-at c .gather .ensures .0) (globals-at c .gather2 .ensures .0) (switches .gather-switches .ensures .0) (switches .gather-switches .ensures .1) (lookups .gather-lookups .ensures .0) (lookups .gather-lookups .ensures .1) ∙ sym (c .room-for .ensures)
+    counted _ _ _ _ _ (start-of c .args .input .now) (code-at c .gather .ensures .0) (globals-at c .gather2 .ensures .0)
+    (switches .gather-tables .ensures .0) (switches .gather-tables .ensures .1) (lookups .gather-tables2 .ensures .0)
+    (lookups .gather-tables2 .ensures .1) ∙ sym (c .room-for .ensures)
 
 -- ---- past that test
 
@@ -57,13 +63,17 @@ codes c = code-at (c .before)
 abbrev globals : tie.Else1 → tie.After-gather2
 globals c = globals-at (c .before)
 
-abbrev switches : tie.Else1 → tie.After-gather-switches
+abbrev switches : tie.Else1 → tie.After-gather-tables
 switches c = switches-at (c .before)
 
-abbrev lookups : tie.Else1 → tie.After-gather-lookups
+abbrev lookups : tie.Else1 → tie.After-gather-tables2
 lookups c = lookups-at (c .before)
 
-room : (c : tie.Else1) → Fits (head c) (codes c .gather .result) (globals c .gather2 .result) (switches c .gather-switches .result) (lookups c .gather-lookups .result)
+abbrev defaults : tie.Else1 → tie.After-gather3
+defaults c = defaults-at (c .before)
+
+room : (c : tie.Else1) → Fits (head c) (codes c .gather .result) (globals c .gather2 .result) (switches c .gather-tables .result)
+    (lookups c .gather-tables2 .result)
 room c = fitting _ _ _ _ _ (sym (c .before .room-for .ensures) ∙ not-false _ (c .if1 .left))
 
 code-part : (c : tie.Else1) → Part (sectionIn Code (text c)) (codes c .gather .last .1 .1 .0) (codes c .gather .result)
@@ -72,26 +82,36 @@ code-part c = section-part 4096 (codes c .gather .ensures .0) (codes c .gather .
 globals-part : (c : tie.Else1) → Part (sectionIn Globals (text c)) (globals c .gather2 .last .1 .1 .0) (globals c .gather2 .result)
 globals-part c = section-part 4096 (globals c .gather2 .ensures .0) (globals c .gather2 .ensures .1) (room c .globals-fit)
 
-switch-firsts-part : (c : tie.Else1) → Part (sectionIn SwitchFirsts (text c)) (switches c .gather-switches .last .1 .0) (switches c .gather-switches .result .tables)
-switch-firsts-part c = section-part 256 (switches c .gather-switches .ensures .0) (switches c .gather-switches .ensures .2) (room c .switches-fit)
+switch-firsts-part : (c : tie.Else1)
+    → Part (sectionIn SwitchFirsts (text c)) (switches c .gather-tables .last .1 .1 .1 .1 .0) (switches c .gather-tables .result .tables)
+switch-firsts-part c = section-part 256 (switches c .gather-tables .ensures .0) (switches c .gather-tables .ensures .2) (room c .switches-fit)
 
-switch-ends-part : (c : tie.Else1) → Part (sectionIn SwitchEnds (text c)) (switches c .gather-switches .last .1 .1 .0) (switches c .gather-switches .result .tables)
-switch-ends-part c = section-part 256 (switches c .gather-switches .ensures .0 ∙ sym (switch-ends-firsts (text c))) (switches c .gather-switches .ensures .3) (room c .switches-fit)
+switch-ends-part : (c : tie.Else1)
+    → Part (sectionIn SwitchEnds (text c)) (switches c .gather-tables .last .1 .1 .1 .1 .1 .0) (switches c .gather-tables .result .tables)
+switch-ends-part c = section-part 256 (switches c .gather-tables .ensures .0 ∙ sym (switch-ends-firsts (text c)))
+    (switches c .gather-tables .ensures .3) (room c .switches-fit)
 
-switch-entries-part : (c : tie.Else1) → Part (sectionIn SwitchEntries (text c)) (switches c .gather-switches .last .1 .1 .1 .0) (switches c .gather-switches .result .entries)
-switch-entries-part c = section-part 4096 (switches c .gather-switches .ensures .1) (switches c .gather-switches .ensures .4) (room c .targets-fit)
+switch-entries-part : (c : tie.Else1)
+    → Part (sectionIn SwitchEntries (text c)) (switches c .gather-tables .last .1 .1 .1 .1 .1 .1 .0) (switches c .gather-tables .result .entries)
+switch-entries-part c = section-part 4096 (switches c .gather-tables .ensures .1) (switches c .gather-tables .ensures .4) (room c .targets-fit)
 
-lookup-firsts-part : (c : tie.Else1) → Part (sectionIn LookupFirsts (text c)) (lookups c .gather-lookups .last .1 .0) (lookups c .gather-lookups .result .tables)
-lookup-firsts-part c = section-part 256 (lookups c .gather-lookups .ensures .0) (lookups c .gather-lookups .ensures .2) (room c .lookups-fit)
+lookup-firsts-part : (c : tie.Else1)
+    → Part (sectionIn LookupFirsts (text c)) (lookups c .gather-tables2 .last .1 .1 .1 .1 .0) (lookups c .gather-tables2 .result .tables)
+lookup-firsts-part c = section-part 256 (lookups c .gather-tables2 .ensures .0) (lookups c .gather-tables2 .ensures .2) (room c .lookups-fit)
 
-lookup-ends-part : (c : tie.Else1) → Part (sectionIn LookupEnds (text c)) (lookups c .gather-lookups .last .1 .1 .0) (lookups c .gather-lookups .result .tables)
-lookup-ends-part c = section-part 256 (lookups c .gather-lookups .ensures .0 ∙ sym (lookup-ends-firsts (text c))) (lookups c .gather-lookups .ensures .3) (room c .lookups-fit)
+lookup-ends-part : (c : tie.Else1)
+    → Part (sectionIn LookupEnds (text c)) (lookups c .gather-tables2 .last .1 .1 .1 .1 .1 .0) (lookups c .gather-tables2 .result .tables)
+lookup-ends-part c = section-part 256 (lookups c .gather-tables2 .ensures .0 ∙ sym (lookup-ends-firsts (text c)))
+    (lookups c .gather-tables2 .ensures .3) (room c .lookups-fit)
 
-lookup-entries-part : (c : tie.Else1) → Part (sectionIn LookupEntries (text c)) (lookups c .gather-lookups .last .1 .1 .1 .0) (lookups c .gather-lookups .result .entries)
-lookup-entries-part c = section-part 4096 (lookups c .gather-lookups .ensures .1) (lookups c .gather-lookups .ensures .4) (room c .values-fit)
+lookup-entries-part : (c : tie.Else1)
+    → Part (sectionIn LookupEntries (text c)) (lookups c .gather-tables2 .last .1 .1 .1 .1 .1 .1 .0) (lookups c .gather-tables2 .result .entries)
+lookup-entries-part c = section-part 4096 (lookups c .gather-tables2 .ensures .1) (lookups c .gather-tables2 .ensures .4) (room c .values-fit)
 
-defaults-part : (c : tie.Else1) → Part (sectionIn LookupDefaults (text c)) (lookups c .gather-lookups .last .1 .1 .1 .1 .0) (lookups c .gather-lookups .result .tables)
-defaults-part c = section-part 256 (lookups c .gather-lookups .ensures .0 ∙ sym (lookup-defaults-firsts (text c))) (lookups c .gather-lookups .ensures .5) (room c .lookups-fit)
+defaults-part : (c : tie.Else1)
+    → Part (sectionIn LookupDefaults (text c)) (defaults c .gather3 .last .1 .1 .0) (lookups c .gather-tables2 .result .tables)
+defaults-part c = section-part 256 (lookups c .gather-tables2 .ensures .0 ∙ sym (lookup-defaults-firsts (text c)))
+    (defaults c .gather3 .ensures .1) (room c .lookups-fit)
 
 frames-part : (c : tie.Else1) → Part (replicate (head c .frames) 0) (replicate 4096 0) (head c .frames)
 frames-part c = zeros-part 4096 (room c .frames)
@@ -112,7 +132,8 @@ unfolding imageText
 returns c =
     let put-refusal = c .before .before in
     let if1 = put-refusal .before .before in
-    rw (tested (if1 .before) ∙ not-true _ (if1 .if1 .taken)) (refusal-says 10 _ _ _ (put-refusal .put-refusal .ensures .0) (put-refusal .put-refusal .ensures .1))
+    rw (tested (if1 .before) ∙ not-true _ (if1 .if1 .taken))
+    (refusal-says 10 _ _ _ (put-refusal .put-refusal .ensures .0) (put-refusal .put-refusal .ensures .1))
 
 mul-heap-size : tie.Need-mul-heap-size
 mul-heap-size c = omega (arith, room c .pages)
@@ -125,7 +146,8 @@ rate-requires c κs =
       search needs,
       start .pre .2,
       rw (start .pre .1) (budget-small _),
-      image-of-parts (text p) (code-part p) (globals-part p) (switch-firsts-part p) (switch-ends-part p) (switch-entries-part p) (lookup-firsts-part p) (lookup-ends-part p) (lookup-entries-part p) (defaults-part p),
+      image-of-parts (text p) (code-part p) (globals-part p) (switch-firsts-part p) (switch-ends-part p) (switch-entries-part p)
+          (lookup-firsts-part p) (lookup-ends-part p) (lookup-entries-part p) (defaults-part p),
       lent-of-parts (head p) (frames-part p) (heap-part p) (slots-part p) (slots-part p),
     )
 
@@ -151,6 +173,7 @@ answer-image-spec =
     (λ c. search needs)
     (λ c. search needs)
     (λ c. search needs)
+    (λ c κs. search needs)
     (λ c. search needs)
     (λ c κs. search needs)
     (λ c κs. search needs)

@@ -10,13 +10,17 @@ use Rattle.text.specs.Lines.{linesOf}
 use Rattle.text.specs.Names.{namesOf, nameOf, answerOf, bytesOf}
 use Rattle.vm.specs.Told.{lentOf, machineOf, saidOf, told}
 use Rattle.image.proofs.Answers.{not-value}
-use Rattle.image.proofs.Interning.{Interning, interning-first, interning-next, interned-all, interned-some, bytes-there, bytes-back, global-there, more-left, few-names}
+use Rattle.image.proofs.Interning.{Interning, interning-first, interning-next, interned-all, interned-some, bytes-there, bytes-back}
+use Rattle.image.proofs.Interning.{global-there, more-left, few-names}
 use borrow.Author.Needs.{needs}
 use Rattle.image.proofs.intern_names.Statement.{statement}
 use Rattle.image.proofs.intern_names.Tie as tie
 
 abbrev Inv-loop : tie.InvT-loop
-Inv-loop input globals₀ heap₀ slots₀ spare₀ name₀ s₀ i₀ globals heap slots spare name s i = Interning input (λ (frames : List ℕ). machineOf s₀ (lentOf frames heap₀ slots₀ spare₀)) globals₀ (λ (frames : List ℕ). machineOf s (lentOf frames heap slots spare)) globals i × (length heap ≡ length heap₀) × (length slots ≡ length slots₀) × (length spare ≡ length spare₀) × (length name ≡ length name₀)
+Inv-loop input globals₀ heap₀ slots₀ spare₀ name₀ s₀ i₀ globals heap slots spare name s i = Interning input
+    (λ (frames : List ℕ). machineOf s₀ (lentOf frames heap₀ slots₀ spare₀)) globals₀
+    (λ (frames : List ℕ). machineOf s (lentOf frames heap slots spare)) globals i × (length heap ≡ length heap₀)
+    × (length slots ≡ length slots₀) × (length spare ≡ length spare₀) × (length name ≡ length name₀)
 
 abbrev μ-loop : tie.MeasureT-loop
 μ-loop input globals₀ heap₀ slots₀ spare₀ name₀ s₀ i₀ globals heap slots spare name s i = length (namesOf 0 (linesOf input)) - i
@@ -50,10 +54,12 @@ module _ (c : tie.After-global Inv-loop μ-loop) where
   bytes = lent .name .last .1 .1 .0
 
   there : len ≤ length bytes
-  there = bytes-there (turn .loop .inv .0) found (start-of turn .pre .0) _ (omega (arith, turn .loop .inv .4, start-of turn .pre .2)) (lent .name .ensures .1)
+  there = bytes-there (turn .loop .inv .0) found (start-of turn .pre .0) _ (omega (arith, turn .loop .inv .4, start-of turn .pre .2))
+      (lent .name .ensures .1)
 
   back : take len bytes ≡ bytesOf (nameOf (turn .loop .i) (start-of turn .args .input .now))
-  back = bytes-back (turn .loop .inv .0) found (start-of turn .pre .0) _ (omega (arith, turn .loop .inv .4, start-of turn .pre .2)) (lent .name .ensures .1)
+  back = bytes-back (turn .loop .inv .0) found (start-of turn .pre .0) _ (omega (arith, turn .loop .inv .4, start-of turn .pre .2))
+      (lent .name .ensures .1)
 
   inside : global < length (turn .loop .globals)
   inside = global-there (turn .loop .inv .0) found (start-of turn .pre .1)
@@ -86,7 +92,8 @@ returns-2 : tie.Need-returns-2 Inv-loop μ-loop
 returns-2 c =
     let intern = c .before .before .before .before .before .before .before in
     let name = found-before intern in
-    interned-some (turn-of name .loop .inv .0) (found name) (back name) (λ (f : List ℕ). told (intern .intern .result) (lentOf f _ _ _)) (intern .intern .ensures) (λ f. not-value _ (c .match2 .keys2))
+    interned-some (turn-of name .loop .inv .0) (found name) (back name) (λ (f : List ℕ). told (intern .intern .result) (lentOf f _ _ _))
+    (intern .intern .ensures) (λ f. not-value _ (c .match2 .keys2))
 
 mul-globals : tie.Need-mul-globals Inv-loop μ-loop
 mul-globals c =

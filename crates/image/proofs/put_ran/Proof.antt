@@ -18,7 +18,8 @@ returns-2 c =
     let put-refusal = c .before .before in
     let number = put-refusal .before in
     let end = number .before .before .before in
-    rw (end .end .given .1) (refusal-says _ _ _ _ (rw (number .number .ensures) at (put-refusal .put-refusal .ensures .0)) (put-refusal .put-refusal .ensures .1))
+    rw (end .end .given .1) (refusal-says _ _ _ _ (rw (number .number .ensures) at (put-refusal .put-refusal .ensures .0))
+    (put-refusal .put-refusal .ensures .1))
 
 pub put-ran-spec : {M : Type 1} → statement M
 put-ran-spec =

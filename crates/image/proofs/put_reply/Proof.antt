@@ -19,7 +19,8 @@ returns-2 c =
     let put-refusal = c .before .before in
     let number = put-refusal .before in
     let reply = number .before .before .before in
-    rw (reply .reply .given .1) (refusal-says _ _ _ _ (rw (number .number .ensures) at (put-refusal .put-refusal .ensures .0)) (put-refusal .put-refusal .ensures .1))
+    rw (reply .reply .given .1) (refusal-says _ _ _ _ (rw (number .number .ensures) at (put-refusal .put-refusal .ensures .0))
+    (put-refusal .put-refusal .ensures .1))
 
 pub put-reply-spec : {M : Type 1} → statement M
 put-reply-spec =

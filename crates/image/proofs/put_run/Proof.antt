@@ -10,7 +10,8 @@ returns c =
     let steps = put-report .before .before .before in
     let pc = steps .before in
     let number = pc .before in
-    written-says _ _ _ _ (rw (number .number .ensures, pc .pc .ensures, steps .steps .ensures) at (put-report .put-report .ensures .0)) (put-report .put-report .ensures .1)
+    written-says _ _ _ _ (rw (number .number .ensures, pc .pc .ensures, steps .steps .ensures) at (put-report .put-report .ensures .0))
+    (put-report .put-report .ensures .1)
 
 pub put-run-spec : {M : Type 1} → statement M
 put-run-spec =

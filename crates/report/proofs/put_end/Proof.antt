@@ -12,8 +12,11 @@ returns c =
     let put-line-feed = c .before .before in
     let put-hex3 = put-line-feed .before .before .before .before in
     let put-hex2 = put-hex3 .before .before .before .before .before in
-    let put-hex = put-hex2 .before .before .before .before in
-    (put-hex .put-hex .ensures .0 then put-hex2 .put-hex2 .ensures .0 then put-hex3 .put-hex3 .ensures .0 then put-line-feed .put-line-feed .ensures .0, omega arith)
+    let put-hex = put-hex2 .before .before .before .before in (
+      put-hex .put-hex .ensures .0 then put-hex2 .put-hex2 .ensures .0 then put-hex3 .put-hex3 .ensures .0 then
+          put-line-feed .put-line-feed .ensures .0,
+      omega arith,
+    )
 
 pub put-end-spec : {M : Type 1} → statement M
 put-end-spec =

@@ -20,7 +20,8 @@ loop-again c =
     let put-register = c .before .before in
     let loop-test = put-register .before .before .before in
     let loop = loop-test .before in
-    lines-next _ _ _ _ _ _ _ _ (loop .loop .inv) (loop-test .loop-test .taken) (put-register .put-register .ensures .0) (put-register .put-register .ensures .1) (put-register .put-register .kept .0)
+    lines-next _ _ _ _ _ _ _ _ (loop .loop .inv) (loop-test .loop-test .taken) (put-register .put-register .ensures .0)
+    (put-register .put-register .ensures .1) (put-register .put-register .kept .0)
 
 returns : tie.Need-returns Inv-loop μ-loop
 returns c =

@@ -12,12 +12,14 @@ use Rattle.runner.proofs.main.Tie as tie
 
 array-share-prefix-out : tie.Need-array-share-prefix-out
 array-share-prefix-out c =
-    let long = ap (λ (l : List ℕ). length l) (c .answer .ensures .1) ∙ length-over _ _ in omega (arith, long, length-replicate {A = ℕ} 656 0, c .answer .ensures .2)
+    let long = ap (λ (l : List ℕ). length l) (c .answer .ensures .1)
+    ∙ length-over _ _ in omega (arith, long, length-replicate {A = ℕ} 656 0, c .answer .ensures .2)
 
 slice-aggregate-write-all : tie.Need-slice-aggregate-write-all
 slice-aggregate-write-all c =
     let answer = c .before in
-    let long = ap (λ (l : List ℕ). length l) (answer .answer .ensures .1) ∙ length-over _ _ in sym (length-take-le _ _ (omega (arith, long, length-replicate {A = ℕ} 656 0, answer .answer .ensures .2)))
+    let long = ap (λ (l : List ℕ). length l) (answer .answer .ensures .1)
+    ∙ length-over _ _ in sym (length-take-le _ _ (omega (arith, long, length-replicate {A = ℕ} 656 0, answer .answer .ensures .2)))
 
 pub main-spec : {M : Type 1} → statement M
 main-spec =

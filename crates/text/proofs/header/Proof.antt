@@ -15,7 +15,7 @@ returns c =
     let payload-start = number .before .before in
     let line-end = payload-start .before in
     head-read _ _ _ (line-end .line-end .ensures) (payload-start .payload-start .ensures) _
-    (simp (number .number .ensures .0, number2 .number2 .ensures .0, number3 .number3 .ensures .0, number4 .number4 .ensures .0, c .number5 .ensures .0))
+    (simp (number .number .ensures, number2 .number2 .ensures, number3 .number3 .ensures, number4 .number4 .ensures, c .number5 .ensures))
 
 pub header-spec : {M : Type 1} → statement M
 header-spec =

@@ -16,7 +16,8 @@ returns-3 c =
     let if3 = c .before in
     let is-header = if3 .before in
     let line-end = is-header .before .before .before in
-    header-then _ _ (line-end .line-end .ensures) (omega arith) (omega arith) _ (is-header .is-header .ensures) (if3 .if3 .taken) _ (c .rest-ok .ensures)
+    header-then _ _ (line-end .line-end .ensures) (omega arith) (omega arith) _ (is-header .is-header .ensures) (if3 .if3 .taken) _
+    (c .rest-ok .ensures)
 
 returns-4 : tie.Need-returns-4
 returns-4 c =

@@ -33,7 +33,8 @@ returns-2 c =
     let if1 = kind .before .before in
     let line-end = if1 .before in
     let loop = line-end .before .before in
-    let here = seek-here _ _ _ _ _ (loop .loop .inv) _ (line-end .line-end .ensures) (if1 .if1 .left) _ (kind .kind .ensures) (if2 .if2 .taken) _ (c .payload-start .ensures) in
+    let here = seek-here _ _ _ _ _ (loop .loop .inv) _ (line-end .line-end .ensures) (if1 .if1 .left) _ (kind .kind .ensures)
+    (if2 .if2 .taken) _ (c .payload-start .ensures) in
     (here, omega (arith, c .payload-start .ensures, line-end .line-end .ensures .0), line-end .line-end .ensures .1)
 
 sub-left : tie.Need-sub-left Inv-loop μ-loop
@@ -43,7 +44,8 @@ sub-left c =
     let if1 = kind .before .before in
     let line-end = if1 .before in
     let loop = line-end .before .before in
-    seek-less _ _ _ _ _ (loop .loop .inv) _ (line-end .line-end .ensures) (if1 .if1 .left) _ (kind .kind .ensures) (if2 .if2 .left) _ 0 (c .one-if .ensures .0)
+    seek-less _ _ _ _ _ (loop .loop .inv) _ (line-end .line-end .ensures) (if1 .if1 .left) _ (kind .kind .ensures) (if2 .if2 .left) _ 0
+    (c .one-if .ensures .0)
 
 add-globals-2 : tie.Need-add-globals-2 Inv-loop μ-loop
 add-globals-2 c =

@@ -1,6 +1,7 @@
 -- `text::names::put_bytes` meets its contract. Assumes nothing.
 use native.Mathlib.Omega.{arith}
 use Rattle.text.specs.Names.{bytesIn}
+use Rattle.text.proofs.Numbers.{field-small}
 use Rattle.text.proofs.Gathering.{Putting, putting-room, putting-next}
 use Rattle.text.proofs.Naming.{bytes-few, bytes-start, bytes-end}
 use borrow.Author.Needs.{needs}
@@ -21,7 +22,8 @@ put-byte-requires c κs =
     let number = c .before in
     let loop = number .before .before in
     let start = loop .before .before .before in
-    (number .number .ensures .1, omega (arith, loop .loop .inv .count, bytes-few (start .args .p .now)))
+    let p = start .args .p .now in
+    (rw (number .number .ensures) (field-small (loop .loop .at) 2 p), omega (arith, loop .loop .inv .count, bytes-few p))
 
 add-at : tie.Need-add-at Inv-loop μ-loop
 add-at c =
@@ -36,7 +38,7 @@ loop-again c =
     let loop-test = number .before in
     let loop = loop-test .before in
     putting-next _ _ _ _ _ _ _ _ _ (loop .loop .inv) (loop-test .loop-test .taken) (omega arith)
-    _ _ _ (number .number .ensures .0) (put-byte .put-byte .ensures) (put-byte .put-byte .kept .1 .0)
+    _ _ _ (number .number .ensures) (put-byte .put-byte .ensures) (put-byte .put-byte .kept .1 .0)
 
 same-length : tie.Need-same-length Inv-loop μ-loop
 same-length c = c .before .loop .inv .long

@@ -22,7 +22,7 @@ returns c =
     let put = c .before .before in
     let number = put .before .before in
     let enum-told = number .before in
-    rw (enum-told .enum-told .given .1, ← number .number .ensures .0) (put .put .ensures)
+    rw (enum-told .enum-told .given .1, ← number .number .ensures) (put .put .ensures)
 
 returns-2 : tie.Need-returns-2
 unfolding adds
@@ -31,7 +31,7 @@ returns-2 c =
     let put2 = put3 .before .before .before .before in
     let number2 = put2 .before .before in
     let enum-told2 = number2 .before in
-    rw (enum-told2 .enum-told2 .given .1, ← number2 .number2 .ensures .0) (put2 .put2 .ensures then put3 .put3 .ensures)
+    rw (enum-told2 .enum-told2 .given .1, ← number2 .number2 .ensures) (put2 .put2 .ensures then put3 .put3 .ensures)
 
 returns-3 : tie.Need-returns-3
 unfolding adds
@@ -39,7 +39,7 @@ returns-3 c =
     let put4 = c .before .before in
     let number3 = put4 .before .before in
     let enum-told3 = number3 .before in
-    rw (enum-told3 .enum-told3 .given .1, ← number3 .number3 .ensures .0) (put4 .put4 .ensures)
+    rw (enum-told3 .enum-told3 .given .1, ← number3 .number3 .ensures) (put4 .put4 .ensures)
 
 returns-4 : tie.Need-returns-4
 unfolding adds
@@ -61,7 +61,7 @@ returns-6 c =
     let put6 = c .before .before in
     let number4 = put6 .before .before in
     let enum-told6 = number4 .before in
-    rw (enum-told6 .enum-told6 .given .1, ← number4 .number4 .ensures .0) (put6 .put6 .ensures)
+    rw (enum-told6 .enum-told6 .given .1, ← number4 .number4 .ensures) (put6 .put6 .ensures)
 
 returns-7 : tie.Need-returns-7
 unfolding adds
@@ -69,7 +69,7 @@ returns-7 c =
     let put7 = c .before .before in
     let number5 = put7 .before .before in
     let enum-told7 = number5 .before in
-    rw (enum-told7 .enum-told7 .given .1, ← number5 .number5 .ensures .0) (put7 .put7 .ensures)
+    rw (enum-told7 .enum-told7 .given .1, ← number5 .number5 .ensures) (put7 .put7 .ensures)
 
 returns-8 : tie.Need-returns-8
 unfolding adds

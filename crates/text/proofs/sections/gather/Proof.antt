@@ -37,7 +37,8 @@ add-targets c =
     let line-end = kind .before .before .before in
     let loop = line-end .before .before in
     let start = loop .before .before .before in
-    let fits = entries-fit _ _ _ _ (line-end .line-end .ensures) (payload-start .payload-start .ensures) (eqb (kind .kind .result) 3) 16 4 _ _ (loop .loop .inv .few-targets) (c .entry-count .ensures) in
+    let fits = entries-fit _ _ _ _ (line-end .line-end .ensures) (payload-start .payload-start .ensures) (eqb (kind .kind .result) 3) 16 4 _
+    _ (loop .loop .inv .few-targets) (c .entry-count .ensures) in
     omega (arith, fits, line-end .line-end .ensures .1, start .good .0 .0)
 
 add-values : tie.Need-add-values Inv-loop μ-loop
@@ -47,7 +48,8 @@ add-values c =
     let line-end = kind .before .before .before in
     let loop = line-end .before .before in
     let start = loop .before .before .before in
-    let fits = entries-fit _ _ _ _ (line-end .line-end .ensures) (payload-start .payload-start .ensures) (eqb (kind .kind .result) 4) 32 16 _ _ (loop .loop .inv .few-values) (c .entry-count2 .ensures) in
+    let fits = entries-fit _ _ _ _ (line-end .line-end .ensures) (payload-start .payload-start .ensures) (eqb (kind .kind .result) 4) 32 16
+    _ _ (loop .loop .inv .few-values) (c .entry-count2 .ensures) in
     omega (arith, fits, line-end .line-end .ensures .1, start .good .0 .0)
 
 add-line-requires : tie.Need-add-line-requires Inv-loop μ-loop
@@ -72,7 +74,8 @@ loop-again c =
     let line-end = if1 .before in
     let loop = line-end .before .before in
     gather-next _ _ _ _ _ _ _ _ (loop .loop .inv) _ (line-end .line-end .ensures) _ _ (kind .kind .ensures) (payload-start .payload-start .ensures)
-    _ _ (entry-count .entry-count .ensures) (entry-count2 .entry-count2 .ensures) (if1 .if1 .left) _ _ (add-line .add-line .ensures) (add-line .add-line .kept .1 .1 .1 .1 .1 .0)
+    _ _ (entry-count .entry-count .ensures) (entry-count2 .entry-count2 .ensures) (if1 .if1 .left) _ _ (add-line .add-line .ensures)
+    (add-line .add-line .kept .1 .1 .1 .1 .1 .0)
 
 same-length-2 : tie.Need-same-length-2 Inv-loop μ-loop
 same-length-2 c = c .before .loop .inv .long

@@ -20,7 +20,12 @@ put-requires : tie.Need-put-requires Inv-loop μ-loop
 put-requires c κs =
     let loop = c .before .before .before in
     let start = loop .before .before .before .before in
-    omega (arith, loop .loop .inv .count, entries-few (start .args .here) (start .args .from) (start .args .width) (start .args .p .now), start .pre .2)
+    omega (
+      arith,
+      loop .loop .inv .count,
+      entries-few (start .args .here) (start .args .from) (start .args .width) (start .args .p .now),
+      start .pre .2,
+    )
 
 add-at : tie.Need-add-at Inv-loop μ-loop
 add-at c =
@@ -37,7 +42,7 @@ loop-again c =
     let loop = loop-test .before in
     let start = loop .before .before .before .before in
     putting-next _ _ _ _ _ _ _ _ _ (loop .loop .inv) (loop-test .loop-test .taken) (start .pre .0)
-    _ _ _ (number .number .ensures .0) (put .put .ensures) (put .put .kept .1 .1 .0)
+    _ _ _ (number .number .ensures) (put .put .ensures) (put .put .kept .1 .1 .0)
 
 same-length : tie.Need-same-length Inv-loop μ-loop
 same-length c = c .before .loop .inv .long

@@ -1,0 +1,2 @@
+-- The laws of comparing answers.
+pub mod Comparing
