@@ -28,7 +28,7 @@ impl fmt::Display for Case {
         writeln!(f, "calls:")?;
         for call in &self.calls {
             match call {
-                Call::Intern(bytes) => writeln!(f, "  Intern({:?})", String::from_utf8_lossy(bytes))?,
+                Call::Intern(bytes) => writeln!(f, "  Intern(b\"{}\")", bytes.escape_ascii())?,
                 Call::InternSmall { len, word } => writeln!(f, "  InternSmall({len}, {word:x}h)")?,
                 Call::SetRegister { register, value } => writeln!(f, "  SetRegister({register}, {value:x}h)")?,
                 other => writeln!(f, "  {other:?}")?,

@@ -1,9 +1,11 @@
 //! The model and another machine, side by side, after every call of a case.
 use crate::case::Case;
+use crate::image::Image;
 use crate::machine::{Answer, Call, Machine, View};
 use crate::model::Model;
-use std::collections::BTreeMap;
+use std::collections::{BTreeMap, HashSet};
 use std::fmt;
+use std::hash::{DefaultHasher, Hash, Hasher};
 
 /// Whether a call that the model has answered is made of the other machine too.
 pub enum Ask {
@@ -56,15 +58,33 @@ pub trait Compared: Machine {
     }
 }
 
-#[derive(Clone, Copy, Default, Debug)]
+#[derive(Clone, Default, Debug)]
 pub struct Counts {
+    /// the different images that were run for at least one step, each by its hash: two of one hash would count as one
+    pub programs: HashSet<u64>,
     /// runs of at least one step, and their steps
-    pub programs: u64,
+    pub runs: u64,
     pub steps: u64,
-    /// runs with nothing to run, or stopped at the first instruction
+    /// runs with nothing to run, stopped at the first instruction, or refused
     pub idle: u64,
     pub host_calls: u64,
+    /// states and buffers handed back otherwise
+    pub made_up: u64,
     pub passed_over: u64,
+}
+
+impl Counts {
+    fn run(&mut self, image: &Image, steps: u64) {
+        if steps == 0 {
+            self.idle += 1;
+            return;
+        }
+        let mut hasher = DefaultHasher::new();
+        image.hash(&mut hasher);
+        self.programs.insert(hasher.finish());
+        self.runs += 1;
+        self.steps += steps;
+    }
 }
 
 pub enum Outcome {
@@ -113,11 +133,9 @@ pub fn compare<M: Compared>(case: &Case, counts: &mut Counts) -> Outcome {
         match call {
             Call::Run { image, .. } => {
                 ran |= !case.images[*image].code.is_empty();
-                let steps = steps_of(answer);
-                counts.programs += u64::from(steps > 0);
-                counts.idle += u64::from(steps == 0);
-                counts.steps += steps;
+                counts.run(&case.images[*image], steps_of(answer));
             }
+            Call::MakeUp { .. } => counts.made_up += 1,
             _ => counts.host_calls += 1,
         }
         if let Some(what) = difference(&model, &model.view(), &other.view(), ran) {
@@ -175,8 +193,9 @@ fn bytes(model: &Model, ours: &[u8], theirs: &[u8]) -> Option<String> {
     }
     let mut theirs = theirs.to_vec();
     for block in &model.blocks {
-        let payload = (block.at - model.state.base) as usize;
-        if payload <= ours.len().min(theirs.len()) {
+        // a made-up base may lie above the block
+        let payload = block.at.wrapping_sub(model.state.base) as usize;
+        if (7..=ours.len().min(theirs.len())).contains(&payload) {
             theirs[payload - 7..payload].copy_from_slice(&ours[payload - 7..payload]);
         }
     }
@@ -209,12 +228,16 @@ impl Tally {
 
 impl fmt::Display for Tally {
     fn fmt(&self, f: &mut fmt::Formatter<'_>) -> fmt::Result {
-        let Counts { programs, steps, idle, host_calls, passed_over } = self.counts;
-        writeln!(f, "{} cases: {programs} programs and {host_calls} host calls compared", self.cases)?;
-        writeln!(f, "{steps} steps in those programs; {idle} more runs without a step compared")?;
+        let Counts { ref programs, runs, steps, idle, host_calls, made_up, passed_over } = self.counts;
+        let programs = programs.len();
+        writeln!(f, "{} cases: {runs} runs of {programs} different programs, and {host_calls} host calls, compared", self.cases)?;
+        writeln!(f, "{steps} steps in those runs; {idle} more runs without a step compared")?;
+        if made_up > 0 {
+            writeln!(f, "{made_up} states or buffers made up between calls")?;
+        }
         writeln!(f, "{passed_over} refused calls answered by the model alone")?;
         let aside: u64 = self.aside.values().sum();
-        writeln!(f, "{aside} cases set aside from some call on:")?;
+        writeln!(f, "{aside} cases set aside from some call on{}", if aside > 0 { ":" } else { "" })?;
         self.aside.iter().try_for_each(|(why, n)| writeln!(f, "  {n:>8}  {why}"))
     }
 }

@@ -1,6 +1,6 @@
 //! An image as it is lent to a machine.
 
-#[derive(Clone, Debug, Default, PartialEq)]
+#[derive(Clone, Debug, Default, Hash, PartialEq)]
 pub struct Image {
     pub code: Vec<u64>,
     pub globals: Vec<u64>,
@@ -8,13 +8,13 @@ pub struct Image {
     pub lookups: Vec<Lookup>,
 }
 
-#[derive(Clone, Debug, Default, PartialEq)]
+#[derive(Clone, Debug, Default, Hash, PartialEq)]
 pub struct Switch {
     pub first: u64,
     pub targets: Vec<u64>,
 }
 
-#[derive(Clone, Debug, Default, PartialEq)]
+#[derive(Clone, Debug, Default, Hash, PartialEq)]
 pub struct Lookup {
     pub first: u64,
     pub default: u64,

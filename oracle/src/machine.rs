@@ -40,7 +40,7 @@ pub enum Call {
         len: u64,
         word: u64,
     },
-    /// No call of the machine: the host hands back another state or buffer than it got. What 9 is there for.
+    /// No call of the machine: the host hands back another state or buffer than it got. What 9 and 10 are there for.
     MakeUp {
         field: Field,
         value: u64,
@@ -51,6 +51,7 @@ pub enum Call {
 #[derive(Clone, Copy, Debug, PartialEq)]
 pub enum Field {
     Depth,
+    Base,
     Pushed,
     /// the last page's place
     Page,
@@ -60,6 +61,16 @@ pub enum Field {
     Names,
     Frame(usize),
     Slot(usize),
+    /// A buffer as long as this: cut off, or longer by zeros.
+    Lent(Buffer),
+}
+
+#[derive(Clone, Copy, Debug, PartialEq)]
+pub enum Buffer {
+    Frames,
+    Heap,
+    Slots,
+    Spare,
 }
 
 #[derive(Clone, Copy, Debug, PartialEq, Eq)]
@@ -113,6 +124,11 @@ pub struct Whole<'a> {
     pub heap: &'a [u8],
     pub slots: &'a [u64],
     pub spare: &'a [u64],
+}
+
+/// The first n, or all where a made-up state says more.
+pub fn first<T>(all: &[T], n: u64) -> &[T] {
+    &all[..(all.len() as u64).min(n) as usize]
 }
 
 /// One machine: `Err` is the number by which a start is refused.

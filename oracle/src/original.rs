@@ -102,7 +102,8 @@ struct TableFields {
     names: usize,
 }
 
-type TableWords = [usize; 4];
+/// As pointers, so that the one among them stays one; the counts are their addresses.
+type TableWords = [*const u64; 4];
 const _: () = assert!(size_of::<StrTable>() == size_of::<TableWords>());
 
 fn words_of(table: &StrTable) -> TableWords {
@@ -116,7 +117,7 @@ static TABLE: LazyLock<TableFields> = LazyLock::new(|| {
     // SAFETY: a string's header, not in the table yet
     unsafe { table.insert(Value::from_ptr(empty_string.as_ptr().cast_mut())) };
     let words = words_of(&table);
-    let place = |what: fn(usize) -> bool| words.iter().position(|&w| what(w)).expect("a field of the table");
+    let place = |what: fn(usize) -> bool| words.iter().position(|w| what(w.addr())).expect("a field of the table");
     let fields = TableFields { slots: place(|w| w > 64), active: place(|w| w == 64), names: place(|w| w == 1) };
     let mut printed = numbers_of(&table);
     assert_eq!((printed.pop(), &printed[..]), (Some(1), slots_of(&table, &fields)));
@@ -126,7 +127,7 @@ static TABLE: LazyLock<TableFields> = LazyLock::new(|| {
 fn slots_of<'a>(table: &'a StrTable, fields: &TableFields) -> &'a [u64] {
     let words = words_of(table);
     // SAFETY: the table's own slots, `Value` being a u64
-    unsafe { std::slice::from_raw_parts(words[fields.slots] as *const u64, words[fields.active]) }
+    unsafe { std::slice::from_raw_parts(words[fields.slots], words[fields.active].addr()) }
 }
 
 /// The numbers in what `Debug` prints of the pages and of the table, whose fields are private.
@@ -256,7 +257,10 @@ impl Machine for Original {
             }
             Call::NewOption(value) => Answer::Value(vm.new_option(value.map(|v| v as i64)).0),
             Call::Intern(ref bytes) => {
-                let s = std::str::from_utf8(bytes).expect("only UTF-8 names are compared");
+                // tested for debugging alone, as the time of a test would be the original's in the bench
+                debug_assert!(std::str::from_utf8(bytes).is_ok());
+                // SAFETY: only UTF-8 names are compared
+                let s = unsafe { std::str::from_utf8_unchecked(bytes) };
                 Answer::Value(vm.new_string_from_str(s).0)
             }
             Call::InternSmall { len, word } => {
@@ -285,7 +289,7 @@ impl Machine for Original {
             page: page(last).0,
             len: last[2],
             slots: Cow::Borrowed(slots_of(&self.vm.strings, &TABLE)),
-            names: words_of(&self.vm.strings)[TABLE.names] as u64,
+            names: words_of(&self.vm.strings)[TABLE.names].addr() as u64,
             pages: Some(pages.iter().map(|p| page(p)).collect()),
             whole: None,
         }

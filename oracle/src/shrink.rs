@@ -28,8 +28,8 @@ fn without(image: &Image, at: usize) -> Image {
 enum Edit {
     /// a small terminal
     Lent,
-    /// the second half of a name
-    Name(usize),
+    /// all of a name but its first bytes, so many
+    Name(usize, usize),
     /// calls from here on, so many
     Calls(usize, usize),
     /// all of an image
@@ -54,7 +54,11 @@ fn edits(case: &Case) -> Vec<Edit> {
     };
     let mut all: Vec<Edit> = runs(case.calls.len()).map(|(at, n)| Edit::Calls(at, n)).collect();
     all.push(Edit::Lent);
-    all.extend((0..case.calls.len()).map(Edit::Name));
+    for (i, call) in case.calls.iter().enumerate() {
+        if let Call::Intern(bytes) = call {
+            all.extend((0..bytes.len()).map(|n| Edit::Name(i, n)));
+        }
+    }
     for (i, image) in case.images.iter().enumerate() {
         all.push(Edit::Image(i));
         all.extend(runs(image.code.len()).map(|(at, n)| Edit::Words(i, at, n)));
@@ -76,8 +80,8 @@ fn edited(case: &Case, edit: &Edit) -> Option<Case> {
             (case.lent != SMALL).then_some(())?;
             case.lent = SMALL;
         }
-        Edit::Name(at) => match case.calls.get_mut(at)? {
-            Call::Intern(bytes) if !bytes.is_empty() => bytes.truncate(bytes.len() / 2),
+        Edit::Name(at, n) => match case.calls.get_mut(at)? {
+            Call::Intern(bytes) if n < bytes.len() => bytes.truncate(n),
             _ => return None,
         },
         Edit::Calls(at, n) => {

@@ -1,16 +1,13 @@
 //! The proved machine, by its library and the bindings to it. It is asked every call, refused ones and made-up states too, and its lent
 //! buffers are compared whole.
 use girzhanok::{
-    Refusal, State, Tables, STATE_WORDS, WORD_ACTIVE, WORD_DEPTH, WORD_LEN, WORD_NAMES, WORD_PAGE, WORD_PC, WORD_PUSHED,
+    Refusal, State, Tables, STATE_WORDS, WORD_ACTIVE, WORD_BASE, WORD_DEPTH, WORD_LEN, WORD_NAMES, WORD_PAGE, WORD_PC,
+    WORD_PUSHED,
 };
-use oracle::anomaly::SIZE;
 use oracle::compare::Compared;
 use oracle::image::Image;
-use oracle::machine::{Answer, Call, Field, Lent, Machine, View, Whole};
+use oracle::machine::{first, Answer, Buffer, Call, Field, Lent, Machine, View, Whole};
 use std::borrow::Cow;
-
-/// No lent buffer that the machine takes is longer; a case that lends more is not handed to it, but refused as the paper says.
-const MOST: u64 = 1 << 24;
 
 pub struct Proved {
     state: State,
@@ -83,11 +80,6 @@ fn value(result: Result<u64, Refusal>) -> Answer {
     result.map_or_else(refused, Answer::Value)
 }
 
-/// The first n, or all where a made-up state says more.
-fn first<T>(all: &[T], n: u64) -> &[T] {
-    &all[..(all.len() as u64).min(n) as usize]
-}
-
 impl Proved {
     fn run(&mut self, image: &Image, budget: u32) -> Answer {
         match self.state.run(budget, &Flat::of(image).lend(), &mut self.frames, &mut self.heap) {
@@ -99,31 +91,34 @@ impl Proved {
     fn make_up(&mut self, field: Field, value: u64) {
         let word = match field {
             Field::Depth => WORD_DEPTH,
+            Field::Base => WORD_BASE,
             Field::Pushed => WORD_PUSHED,
             Field::Page => WORD_PAGE,
             Field::Len => WORD_LEN,
             Field::Active => WORD_ACTIVE,
             Field::Names => WORD_NAMES,
-            Field::Frame(i) => {
-                self.frames[i] = value;
-                return;
-            }
-            Field::Slot(i) => {
-                self.slots[i] = value;
-                return;
-            }
+            // fewer may be lent by now
+            Field::Frame(i) => return self.frames.get_mut(i).into_iter().for_each(|frame| *frame = value),
+            Field::Slot(i) => return self.slots.get_mut(i).into_iter().for_each(|slot| *slot = value),
+            Field::Lent(buffer) => return self.lend(buffer, value as usize),
         };
         let mut words: [u64; STATE_WORDS] = *self.state.words();
         words[word] = value;
         self.state = State::from_words(words);
     }
+
+    fn lend(&mut self, buffer: Buffer, len: usize) {
+        match buffer {
+            Buffer::Frames => self.frames.resize(len, 0),
+            Buffer::Heap => self.heap.resize(len, 0),
+            Buffer::Slots => self.slots.resize(len, 0),
+            Buffer::Spare => self.spare.resize(len, 0),
+        }
+    }
 }
 
 impl Machine for Proved {
     fn start(lent: Lent, image: &Image) -> Result<Self, u8> {
-        if [lent.heap, lent.frames, lent.slots, lent.spare].iter().any(|&n| n > MOST) {
-            return Err(SIZE);
-        }
         let words = |n: u64| vec![u64::from_le_bytes([lent.fill; 8]); n as usize];
         let (mut frames, mut heap) = (words(lent.frames), vec![lent.fill; lent.heap as usize]);
         let (slots, spare) = (words(lent.slots), words(lent.spare));

@@ -4,7 +4,7 @@ use super::rng::Rng;
 use super::values;
 use crate::case::Case;
 use crate::image::Image;
-use crate::machine::{Answer, Call, Field, Lent, Machine, PAGE};
+use crate::machine::{Answer, Buffer, Call, Field, Lent, Machine, PAGE};
 use crate::model::{self, Model};
 
 /// A terminal of some size.
@@ -135,17 +135,17 @@ pub fn list(rng: &mut Rng) -> Case {
     Case { lent, images, calls }
 }
 
-/// A list with states and buffers made up in places, at the edges of what 9 tests.
+/// A list with states and buffers made up in places, at the edges of what 9 and 10 test.
 pub fn made_up(rng: &mut Rng) -> Case {
     let mut case = list(rng);
     for _ in 0..rng.from_to(1, 4) {
         let at = rng.below(case.calls.len() as u64 + 1) as usize;
-        let (heap, frames, slots) = (case.lent.heap, case.lent.frames, case.lent.slots);
+        let Lent { base, heap, frames, slots, .. } = case.lent;
         let words = case.images[0].code.len() as u64;
         let near = |rng: &mut Rng, n: u64| n.wrapping_add(rng.below(3)).wrapping_sub(1);
         let page = PAGE * rng.below(heap / PAGE + 2);
         let page = near(rng, page);
-        let (field, value) = match rng.below(8) {
+        let (field, value) = match rng.below(13) {
             0 => (Field::Depth, near(rng, frames)),
             1 => (Field::Pushed, page),
             2 => (Field::Page, page),
@@ -156,12 +156,22 @@ pub fn made_up(rng: &mut Rng) -> Case {
             4 => (Field::Active, *rng.one_of(&[0, 32, 64, 96, 128, slots, slots * 2])),
             5 => (Field::Names, rng.below(40)),
             6 => (Field::Frame(rng.below(frames) as usize), near(rng, words)),
-            _ => {
-                let address = case.lent.base + rng.one_of(&[0, 16, 48, PAGE, heap, heap - 8]);
+            7 => {
+                let address = base + rng.one_of(&[0, 16, 48, PAGE, heap, heap - 8]);
                 (Field::Slot(rng.below(slots) as usize), near(rng, address))
             }
+            8 => {
+                let last = (1 << 48) - heap;
+                (Field::Base, *rng.one_of(&[0, 1, PAGE, base + 1, base + PAGE, last, last + PAGE, !0 << 12]))
+            }
+            9 => (Field::Lent(Buffer::Frames), *rng.one_of(&[0, 1, 2, 16_384, 16_385])),
+            10 => (Field::Lent(Buffer::Heap), *rng.one_of(&[0, 4095, PAGE, PAGE + 1, heap + PAGE, 256 * PAGE, 257 * PAGE])),
+            11 => (Field::Lent(Buffer::Slots), *rng.one_of(&[0, 32, 63, 64, 128, 4096, 8192])),
+            _ => (Field::Lent(Buffer::Spare), *rng.one_of(&[0, 64, slots, slots * 2])),
         };
-        let value = if rng.one_in(8) { values::int(rng) } else { value };
+        // a length is one that can be had
+        let any = !matches!(field, Field::Lent(_)) && rng.one_in(8);
+        let value = if any { values::int(rng) } else { value };
         case.calls.insert(at, Call::MakeUp { field, value });
     }
     case
@@ -171,7 +181,7 @@ pub fn made_up(rng: &mut Rng) -> Case {
 pub fn many_names(rng: &mut Rng) -> Case {
     let slots = 64 << rng.below(7);
     let lent = Lent { slots, spare: slots, heap: 64 * PAGE, ..lent(rng) };
-    // at most half full: one more than fits, at times
+    // half full is the most that there can be: up to two names more
     let most = slots / 2 + rng.below(3);
     let count = if rng.one_in(4) { most } else { rng.below(most) };
     let mut calls: Vec<Call> = (0..count).map(|n| named(rng, n)).collect();
@@ -185,8 +195,7 @@ pub fn many_names(rng: &mut Rng) -> Case {
 fn named(rng: &mut Rng, n: u64) -> Call {
     let name = format!("n{n:x}");
     if name.len() <= 8 && rng.one_in(3) {
-        let word = name.bytes().rev().fold(0, |word, b| word << 8 | u64::from(b));
-        Call::InternSmall { len: name.len() as u64, word }
+        Call::InternSmall { len: name.len() as u64, word: model::small_word(name.as_bytes()) }
     } else {
         Call::Intern(name.into_bytes())
     }

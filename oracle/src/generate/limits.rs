@@ -10,7 +10,7 @@ use crate::model::word::op;
 const HALT: u64 = op::Halt as u64;
 
 pub fn case(rng: &mut Rng) -> Case {
-    match rng.below(8) {
+    match rng.below(9) {
         0 => sizes(rng),
         1 => blocks(rng),
         2 => frames(rng),
@@ -18,6 +18,7 @@ pub fn case(rng: &mut Rng) -> Case {
         4 => big_image(rng),
         5 => budgets(rng),
         6 => refused_word(rng),
+        7 => quotients(rng),
         _ => tables(rng),
     }
 }
@@ -126,31 +127,54 @@ fn big_image(rng: &mut Rng) -> Case {
         }
         2 => {
             let tables = rng.from_to(255, 257);
-            image.switches = (0..tables).map(|first| Switch { first, targets: vec![1; rng.below(3) as usize] }).collect();
-            image.code.insert(0, word(op::Switch, 1, 0, 0, 254 + rng.below(3) as u32));
+            let last = 254 + rng.below(3) as u32;
+            let kind = rng.below(2);
+            let mut entries = || vec![1; rng.below(3) as usize];
+            if kind == 0 {
+                image.switches = (0..tables).map(|first| Switch { first, targets: entries() }).collect();
+                image.code.insert(0, word(op::Switch, 1, 0, 0, last));
+            } else {
+                image.lookups = (0..tables).map(|first| Lookup { first, default: 9, values: entries() }).collect();
+                image.code.insert(0, word(op::Lookup, 5, 1, 1, last));
+            }
         }
         _ => {
             let entries = rng.from_to(4094, 4097) as usize;
-            image.lookups = vec![
-                Lookup { first: 0, default: 9, values: vec![1; entries / 2] },
-                Lookup { first: 0, default: 8, values: vec![2; entries - entries / 2] },
-            ];
-            image.code.insert(0, word(op::Lookup, 5, 1, 1, rng.below(3) as u32));
+            let halves = [(1, entries / 2), (2, entries - entries / 2)];
+            let table = rng.below(3) as u32;
+            if rng.one_in(2) {
+                image.switches = halves.map(|(_, n)| Switch { first: 0, targets: vec![1; n] }).into();
+                image.code.insert(0, word(op::Switch, 1, 0, 0, table));
+            } else {
+                image.lookups = halves.map(|(v, n)| Lookup { first: 0, default: 10 - v, values: vec![v; n] }).into();
+                image.code.insert(0, word(op::Lookup, 5, 1, 1, table));
+            }
         }
     }
     run(image, 100, small())
 }
 
-/// Budgets 0, 1, exact and one less.
+/// Budgets 0, 1, exact, one less and one more, and the most that there is.
 fn budgets(rng: &mut Rng) -> Case {
     let turns = rng.from_to(1, 5);
     let code = vec![word(op::LoadI, 0, 0, 0, turns as u32), word(op::ISubI, 0, 0, 0, 1), word(op::JmpNeI, 0, 1, 0, 0), HALT];
     let steps = 2 + 2 * turns;
-    let budget = *rng.one_of(&[0, 1, steps - 1, steps, steps + 1]);
+    let budget = *rng.one_of(&[0, 1, steps - 1, steps, steps + 1, u64::from(u32::MAX)]);
     let mut case = run(Image { code, ..Image::default() }, budget, small());
     // the rest of it, after 5
     case.calls.push(Call::Run { image: 0, budget: steps });
     case
+}
+
+/// Divisions at their edges: −2^63 by −1 in half of them, which is 7.
+fn quotients(rng: &mut Rng) -> Case {
+    const LEAST: u64 = 1 << 63;
+    let any = (*rng.one_of(&[0, 7, 7u64.wrapping_neg(), LEAST, LEAST + 1, LEAST - 1]), *rng.one_of(&[0, 1, 2, !0, !1]));
+    let (dividend, divisor) = if rng.one_in(2) { (LEAST, !0) } else { any };
+    let opcode = *rng.one_of(&[op::IDiv, op::IMod, op::IDivI, op::IModI]);
+    let rhs = if matches!(opcode, op::IDiv | op::IMod) { (1, 0) } else { (0, divisor as u32) };
+    let code = vec![word(op::LoadG, 0, 0, 0, 0), word(op::LoadG, 1, 0, 0, 1), word(opcode, 2, 0, rhs.0, rhs.1), HALT];
+    run(Image { code, globals: vec![dividend, divisor], ..Image::default() }, 50, small())
 }
 
 /// A word at or past the edge of what the loader takes.

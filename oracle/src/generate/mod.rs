@@ -10,12 +10,12 @@ use crate::case::Case;
 use crate::compare::Compared;
 use rng::Rng;
 
-/// One for this machine: with made-up states among them if it can refuse those.
+/// One for this machine: with made-up states and buffers among them if it can refuse those.
 pub fn case_for<M: Compared>(seed: u64, number: u64) -> Case {
     if M::REFUSES && number % 8 == 7 { made_up(seed, number) } else { case(seed, number) }
 }
 
-/// Lists in which the host hands back another state than it got: for machines that give 9, so not for the original.
+/// Lists in which the host hands back another state or buffer than it got: for machines that give 9 and 10, so not for the original.
 pub fn made_up(seed: u64, number: u64) -> Case {
     calls::made_up(&mut Rng::of(seed, number))
 }

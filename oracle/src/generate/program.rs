@@ -10,6 +10,8 @@ use crate::model::word::op;
 const INTS: u64 = 10;
 const FINITE: [u64; 4] = [10, 11, 12, 13];
 const PATTERNS: [u64; 2] = [14, 15];
+/// FINITE and PATTERNS.
+const DOUBLES: [u64; 6] = [10, 11, 12, 13, 14, 15];
 const POINTERS: [u64; 3] = [16, 17, 18];
 const WITHIN: u64 = 19;
 const NAMES: [u64; 3] = [20, 21, 22];
@@ -206,12 +208,18 @@ impl Builder<'_> {
         let dst = self.int();
         match self.rng.below(5) {
             0 | 1 => {
-                let (to, l, r) = (*self.rng.one_of(&FINITE), *self.rng.one_of(&FINITE), *self.rng.one_of(&FINITE));
+                let (to, mut l, mut r) = (*self.rng.one_of(&FINITE), *self.rng.one_of(&FINITE), *self.rng.one_of(&FINITE));
+                // a special pattern only now and then: a NaN result sets the rest of the case aside
+                if self.rng.one_in(8) {
+                    let (register, value) = (*self.rng.one_of(&PATTERNS), values::special(self.rng));
+                    self.load(register, value);
+                    *if self.rng.one_in(2) { &mut l } else { &mut r } = register;
+                }
                 let opcode = *self.rng.one_of(&[op::DAdd, op::DSub, op::DMul, op::DDiv]);
                 self.emit(word(opcode, to, l, r, 0));
             }
             2 => {
-                let (l, r) = (self.rng.from_to(10, 15), self.rng.from_to(10, 15));
+                let (l, r) = (*self.rng.one_of(&DOUBLES), *self.rng.one_of(&DOUBLES));
                 let opcode = *self.rng.one_of(&[op::DLt, op::DGt]);
                 self.emit(word(opcode, dst, l, r, 0));
             }

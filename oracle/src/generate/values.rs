@@ -73,11 +73,15 @@ pub fn int(rng: &mut Rng) -> u64 {
     }
 }
 
+pub fn special(rng: &mut Rng) -> u64 {
+    *rng.one_of(&DOUBLES)
+}
+
 /// Any pattern.
 pub fn double(rng: &mut Rng) -> u64 {
     match rng.below(3) {
-        0 => *rng.one_of(&DOUBLES),
-        // about where the casts change: 1 to 2^66
+        0 => special(rng),
+        // about where the casts change: from 1/8 up to 2^68
         1 => rng.word() & 0x800f_ffff_ffff_ffff | rng.from_to(1020, 1090) << 52,
         _ => rng.word(),
     }

@@ -1,4 +1,5 @@
-//! The machine of document 01, written from its sentences alone: every program, every call, every refusal.
+//! The machine of document 01: every program, every call, every refusal. It is written from that document, and from op.rs, vm.rs and
+//! string.rs for what it leaves to them (what each `Op` does, the hash, the probing); nothing is taken from the proved source.
 //!
 //! It is also what keeps the original inside its written conditions: it remembers which blocks were allocated and tells after
 //! each call which condition, if any, the call left.
@@ -11,7 +12,7 @@ pub mod word;
 
 use crate::anomaly::{OPERAND, SIZE, SMALL_STRING, STATE};
 use crate::image::Image;
-use crate::machine::{Answer, Call, Field, Lent, Machine, PAGE, View, Whole};
+use crate::machine::{Answer, Buffer, Call, Field, Lent, Machine, PAGE, View, Whole, first};
 use std::borrow::Cow;
 
 pub use names::{hash, small_hash, small_word};
@@ -195,45 +196,56 @@ impl Model {
 
     fn make_up(&mut self, field: Field, value: u64) {
         let s = &mut self.state;
-        *match field {
+        let place = match field {
             Field::Depth => &mut s.depth,
+            Field::Base => &mut s.base,
             Field::Pushed => &mut s.pushed,
             Field::Page => &mut s.page,
             Field::Len => &mut s.len,
             Field::Active => &mut s.active,
             Field::Names => &mut s.names,
-            Field::Frame(i) => &mut self.frames[i],
-            Field::Slot(i) => &mut self.slots[i],
-        } = value;
+            Field::Frame(i) if i < self.frames.len() => &mut self.frames[i],
+            Field::Slot(i) if i < self.slots.len() => &mut self.slots[i],
+            // fewer are lent by now
+            Field::Frame(_) | Field::Slot(_) => return,
+            Field::Lent(buffer) => return self.lend(buffer, value as usize),
+        };
+        *place = value;
+    }
+
+    fn lend(&mut self, buffer: Buffer, len: usize) {
+        match buffer {
+            Buffer::Frames => self.frames.resize(len, 0),
+            Buffer::Heap => self.heap.resize(len, 0),
+            Buffer::Slots => self.slots.resize(len, 0),
+            Buffer::Spare => self.spare.resize(len, 0),
+        }
+    }
+
+    /// 10 and 9, for all that an interning is lent.
+    fn interning_refusal(&self) -> Option<u8> {
+        if !self.heap_lent() || !self.slots_lent() {
+            return Some(SIZE);
+        }
+        (!self.pages_belong() || !self.names_belong()).then_some(STATE)
     }
 
     fn intern(&mut self, bytes: &[u8]) -> Answer {
-        if !self.heap_lent() || !self.slots_lent() {
-            return Answer::Refused(SIZE);
-        }
-        if !self.pages_belong() || !self.names_belong() {
-            return Answer::Refused(STATE);
+        if let Some(number) = self.interning_refusal() {
+            return Answer::Refused(number);
         }
         answer(self.name(bytes))
     }
 
     fn intern_small(&mut self, len: u64, word: u64) -> Answer {
-        if !self.heap_lent() || !self.slots_lent() {
-            return Answer::Refused(SIZE);
-        }
-        if !self.pages_belong() || !self.names_belong() {
-            return Answer::Refused(STATE);
+        if let Some(number) = self.interning_refusal() {
+            return Answer::Refused(number);
         }
         if len > 8 || (len < 8 && word >> (8 * len) != 0) {
             return Answer::Refused(SMALL_STRING);
         }
         answer(self.name(&word.to_le_bytes()[..len as usize]))
     }
-}
-
-/// The first n, or all where a made-up state says more.
-fn first<T>(all: &[T], n: u64) -> &[T] {
-    &all[..(all.len() as u64).min(n) as usize]
 }
 
 fn answer(result: Result<u64, u8>) -> Answer {

@@ -1,60 +1,64 @@
 //! The proved machine against the original, in one process and in turn: nanoseconds and ratios, the least of many repeats.
+use oracle::generate::program::word;
 use oracle::image::Image;
 use oracle::machine::{Answer, Call, Lent, Machine};
+use oracle::model::word::op;
 use oracle::original::Original;
 use proved::Proved;
 use std::hint::black_box;
 use std::time::Instant;
 
 const REPEATS: usize = 25;
-const TURNS: i32 = 1_000_000;
-const DEEP: i32 = 10_000;
+/// Of calls that are timed one by one: of 4,096 slots the tests take fifty times what is left.
+const CALL_REPEATS: usize = 400;
+const TURNS: u32 = 1_000_000;
+const DEEP: u32 = 10_000;
 
-/// A word: opcode, bytes 1 to 3, and the upper half.
-fn word(op: u64, a: u64, b: u64, c: u64, high: i32) -> u64 {
-    op | a << 8 | b << 16 | c << 24 | u64::from(high as u32) << 32
+fn load_i(r: u64, v: u32) -> u64 {
+    word(op::LoadI, r, 0, 0, v)
 }
 
-fn load_i(r: u64, v: i32) -> u64 {
-    word(27, r, 0, 0, v)
-}
-
-const HALT: u64 = 59;
-const NOP: u64 = 60;
+const HALT: u64 = op::Halt as u64;
+const NOP: u64 = op::Nop as u64;
 
 /// r0 counts up to r1; `body` stands at place 3; ILt r6, r0, r1; JmpT r6, 3; Halt.
 fn counted(setup: u64, body: &[u64]) -> Vec<u64> {
     let mut code = vec![load_i(0, 0), load_i(1, TURNS), setup];
     code.extend(body);
-    code.extend([word(1, 0, 0, 0, 1), word(12, 6, 0, 1, 0), word(30, 6, 3, 0, 0), HALT]);
+    code.extend([word(op::IAddI, 0, 0, 0, 1), word(op::ILt, 6, 0, 1, 0), word(op::JmpT, 6, 3, 0, 0), HALT]);
     code
 }
 
 fn programs() -> Vec<(&'static str, Vec<u64>)> {
-    // IAdd r3, r0, r2; IMul r4, r3, r2; ISub r5, r4, r0
-    let arithmetic = counted(load_i(2, 3), &[word(0, 3, 0, 2, 0), word(4, 4, 3, 2, 0), word(2, 5, 4, 0, 0)]);
-    // IAndI r2, r0, 1; JmpEqI r2, 0, 7; IAddI r3, r3, 1; Jmp 8; 7: IAddI r4, r4, 2
-    let branches = counted(
-        NOP,
-        &[word(11, 2, 0, 0, 1), word(32, 2, 7, 0, 0), word(1, 3, 3, 0, 1), word(29, 0, 8, 0, 0), word(1, 4, 4, 0, 2)],
-    );
-    // Alloc r2, Record, 8, 64; Store r2, r0, 8; Load r3, r2, 8; IAdd r4, r4, r3; Store r2, r4, 16
-    let memory =
-        counted(word(53, 2, 0, 8, 64), &[word(54, 2, 0, 0, 8), word(55, 3, 2, 0, 8), word(0, 4, 4, 3, 0), word(54, 2, 4, 0, 16)]);
-    // 100 times: r0 = DEEP; Call 8; 8: ISubI r0, r0, 1; JmpEqI r0, 0, 11; Call 8; 11: Ret
+    let body = [word(op::IAdd, 3, 0, 2, 0), word(op::IMul, 4, 3, 2, 0), word(op::ISub, 5, 4, 0, 0)];
+    let arithmetic = counted(load_i(2, 3), &body);
+    // r3 is added to where r0 is odd, r4 where it is even
+    let body = [
+        word(op::IAndI, 2, 0, 0, 1),
+        word(op::JmpEqI, 2, 7, 0, 0),
+        word(op::IAddI, 3, 3, 0, 1),
+        word(op::Jmp, 0, 8, 0, 0),
+        word(op::IAddI, 4, 4, 0, 2),
+    ];
+    let branches = counted(NOP, &body);
+    // in a Record of 64 bytes, which r2 holds
+    let body =
+        [word(op::Store, 2, 0, 0, 8), word(op::Load, 3, 2, 0, 8), word(op::IAdd, 4, 4, 3, 0), word(op::Store, 2, 4, 0, 16)];
+    let memory = counted(word(op::Alloc, 2, 0, 8, 64), &body);
+    // 100 times r0 is set to DEEP, and the function at place 8 calls itself until it is 0
     let calls = vec![
         load_i(7, 0),
         load_i(8, TURNS / DEEP),
         load_i(0, DEEP),
-        word(39, 0, 0, 0, 8),
-        word(1, 7, 7, 0, 1),
-        word(12, 6, 7, 8, 0),
-        word(30, 6, 2, 0, 0),
+        word(op::Call, 0, 0, 0, 8),
+        word(op::IAddI, 7, 7, 0, 1),
+        word(op::ILt, 6, 7, 8, 0),
+        word(op::JmpT, 6, 2, 0, 0),
         HALT,
-        word(3, 0, 0, 0, 1),
-        word(32, 0, 11, 0, 0),
-        word(39, 0, 0, 0, 8),
-        word(57, 0, 0, 0, 0),
+        word(op::ISubI, 0, 0, 0, 1),
+        word(op::JmpEqI, 0, 11, 0, 0),
+        word(op::Call, 0, 0, 0, 8),
+        word(op::Ret, 0, 0, 0, 0),
         HALT,
     ];
     vec![("integer arithmetic", arithmetic), ("branches", branches), ("calls 10,000 deep", calls), ("loads and stores", memory)]
@@ -73,8 +77,8 @@ fn timed<M: Machine>(machine: &mut M, images: &[Image], call: &Call) -> (f64, An
     (from.elapsed().as_secs_f64() * 1e9, answer)
 }
 
-fn row(what: &str, original: f64, proved: f64) {
-    println!("| {what} | {original:.2} | {proved:.2} | {:.2} |", proved / original);
+fn row(what: &str, original: f64, proved: f64) -> String {
+    format!("| {what} | {original:.2} | {proved:.2} | {:.2} |", proved / original)
 }
 
 fn runs() {
@@ -92,7 +96,7 @@ fn runs() {
             least = [least[0].min(theirs), least[1].min(ours)];
             count = steps;
         }
-        row(&format!("{name}, a step"), least[0] / count as f64, least[1] / count as f64);
+        println!("{}", row(&format!("{name}, a step"), least[0] / count as f64, least[1] / count as f64));
     }
 }
 
@@ -107,22 +111,44 @@ fn each<M: Machine>(machines: &mut [M], calls: &[Vec<Call>]) -> f64 {
     from.elapsed().as_secs_f64() * 1e9 / calls.iter().map(Vec::len).sum::<usize>() as f64
 }
 
-/// 2,000 names, `most` to a machine, new and then again. Nanoseconds a name of the original, of the machine here, and of its tests alone, once
-/// the names are in: a call that passes 10 and 9 and is then refused by 17.
-fn interned(most: usize, slots: u64) -> [[f64; 3]; 2] {
-    let names: Vec<Call> = (0..2000).map(|i| Call::Intern(format!("tier name {i}").into_bytes())).collect();
-    let calls: Vec<Vec<Call>> = names.chunks(most).map(<[Call]>::to_vec).collect();
-    let refused: Vec<Vec<Call>> = calls.iter().map(|c| vec![Call::InternSmall { len: 9, word: 0 }; c.len()]).collect();
-    // the original's heaps stand side by side
-    let pages = 1 + most as u64 / 32;
-    let lent = |i: u64| Lent { base: BASE + i * pages * 4096, heap: pages * 4096, frames: 1, slots, spare: slots, fill: 0 };
-    let machines = || (0..calls.len() as u64).map(lent);
+/// 2,000 names, `most` to a machine of so many slots.
+struct Names {
+    calls: Vec<Vec<Call>>,
+    lent: Vec<Lent>,
+}
+
+impl Names {
+    fn new(most: usize, slots: u64) -> Self {
+        let names: Vec<Call> = (0..2000).map(|i| Call::Intern(format!("tier name {i}").into_bytes())).collect();
+        let calls: Vec<Vec<Call>> = names.chunks(most).map(<[Call]>::to_vec).collect();
+        // the original's heaps stand side by side
+        let pages = 1 + most as u64 / 32;
+        let lent = |i: u64| Lent { base: BASE + i * pages * 4096, heap: pages * 4096, frames: 1, slots, spare: slots, fill: 0 };
+        let lent = (0..calls.len() as u64).map(lent).collect();
+        Names { calls, lent }
+    }
+
+    fn originals(&self) -> Vec<Original> {
+        self.lent.iter().map(|&l| Original::lend(l).expect("the heap's addresses")).collect()
+    }
+
+    fn proved(&self) -> Vec<Proved> {
+        self.lent.iter().map(|&l| Proved::start(l, &Image::default()).ok().expect("a start")).collect()
+    }
+}
+
+/// A call that passes 10 and 9 and is then refused by 17.
+const TESTS: Call = Call::InternSmall { len: 9, word: 0 };
+
+/// The names interned one behind the other, new and then again: nanoseconds a name of the original, of the machine here, and of its tests alone,
+/// once the names are in.
+fn in_a_row(names: &Names) -> [[f64; 3]; 2] {
+    let tests: Vec<Vec<Call>> = names.calls.iter().map(|c| vec![TESTS; c.len()]).collect();
     let mut least = [[f64::MAX; 3]; 2];
     for _ in 0..REPEATS {
-        let mut theirs: Vec<_> = machines().map(|l| Original::lend(l).expect("the heap's addresses")).collect();
-        let mut ours: Vec<_> = machines().map(|l| Proved::start(l, &Image::default()).ok().expect("a start")).collect();
+        let (mut theirs, mut ours) = (names.originals(), names.proved());
         for least in &mut least {
-            let now = [each(&mut theirs, &calls), each(&mut ours, &calls), each(&mut ours, &refused)];
+            let now = [each(&mut theirs, &names.calls), each(&mut ours, &names.calls), each(&mut ours, &tests)];
             for (least, now) in least.iter_mut().zip(now) {
                 *least = least.min(now);
             }
@@ -134,23 +160,68 @@ fn interned(most: usize, slots: u64) -> [[f64; 3]; 2] {
     least
 }
 
-fn names() {
-    for (most, slots, machines) in [(32, 64, "32 to a machine"), (2000, 4096, "2,000 in one machine")] {
-        let [new, again] = interned(most, slots);
-        let tests = new[2].min(again[2]);
-        for (what, [theirs, ours, _]) in [("a new name", new), ("a name again", again)] {
-            println!("| {what}, {machines} | {theirs:.2} | {ours:.2} | |");
-            // of many slots the tests are nearly all of the time, and nothing is told by a difference
-            if most == 32 {
-                row(&format!("{what}, {machines}, less the tests"), theirs, ours - tests);
+/// Each call timed by itself: the least times of what comes before it, if anything, and of the call.
+fn apart<M: Machine>(machines: &mut [M], calls: &[Vec<Call>], before: Option<&Call>, least: &mut [[f64; 2]]) {
+    let mut least = least.iter_mut();
+    for (machine, calls) in machines.iter_mut().zip(calls) {
+        for call in calls {
+            let from = Instant::now();
+            if let Some(before) = before {
+                black_box(machine.call(&[], before));
             }
+            let between = Instant::now();
+            black_box(machine.call(&[], call));
+            let to = Instant::now();
+            let [first, second] = least.next().expect("a time for each name");
+            *first = first.min((between - from).as_secs_f64() * 1e9);
+            *second = second.min((to - between).as_secs_f64() * 1e9);
         }
-        println!("| the tests of an interning, {slots} slots with {most} names | | {tests:.2} | |");
     }
 }
 
+/// The names timed one by one, new and then again: nanoseconds a name of the original, less those of looking at the clock, and of the machine
+/// here, less those of its tests on the same table, which another machine makes in its place.
+fn one_by_one(names: &Names) -> [[f64; 2]; 2] {
+    let mut least = vec![[[f64::MAX; 2]; 2000]; 6];
+    for _ in 0..CALL_REPEATS {
+        let (mut theirs, mut ours, mut tested) = (names.originals(), names.proved(), names.proved());
+        for least in least.chunks_mut(3) {
+            apart(&mut theirs, &names.calls, None, &mut least[0]);
+            apart(&mut ours, &names.calls, None, &mut least[1]);
+            apart(&mut tested, &names.calls, Some(&TESTS), &mut least[2]);
+        }
+    }
+    let mean = |calls: &[[f64; 2]], less: &[[f64; 2]]| {
+        calls.iter().zip(less).map(|([_, call], [before, _])| call - before).sum::<f64>() / calls.len() as f64
+    };
+    let both = |at: usize| [mean(&least[at], &least[at]), mean(&least[at + 1], &least[at + 2])];
+    [both(0), both(3)]
+}
+
+/// Rows that compare like with like, and what is printed of the whole calls.
+fn names() -> Vec<String> {
+    let mut whole = Vec::new();
+    for (most, slots, machines) in [(32, 64, "32 to a machine"), (2000, 4096, "2,000 in one machine")] {
+        let names = Names::new(most, slots);
+        let (calls, less) = (in_a_row(&names), one_by_one(&names));
+        for (what, [theirs, ours, _], [alone, less]) in [("a new name", calls[0], less[0]), ("a name again", calls[1], less[1])] {
+            println!("{}", row(&format!("{what}, {machines}, less the tests"), alone, less));
+            whole.push(row(&format!("{what}, {machines}"), theirs, ours));
+        }
+        let tests = calls[0][2].min(calls[1][2]);
+        whole.push(format!("| the tests alone, {slots} slots with {most} names | | {tests:.2} | |"));
+    }
+    whole
+}
+
+const HEAD: &str = "| What | Rust, ns | here, ns | ratio |\n|---|---|---|---|";
+
 fn main() {
-    println!("| What | Rust, ns | here, ns | ratio |\n|---|---|---|---|");
+    println!("{HEAD}");
     runs();
-    names();
+    let whole = names();
+    println!("\nAn interning whole, with its tests of 10 and 9, which the Rust does not make:\n\n{HEAD}");
+    for row in whole {
+        println!("{row}");
+    }
 }
