@@ -7,6 +7,8 @@
  *     elements behind it. Where the count is 0 it may be null.
  *   - `value`, `pc` and `steps` point to one object each and are not null.
  *   - The buffers and objects that one call may write overlap no other that it is lent.
+ *   - The thread's floating-point mode is the default: to nearest, subnormals kept. fesetround, or a program linked with -ffast-math or
+ *     -Ofast, which flushes subnormals to zero, changes what doubles and CastToDouble give.
  *
  * The functions keep no memory of their own, so machines in different buffers may run in different threads.
  *
@@ -89,8 +91,9 @@ enum {
     /* refusals: nothing that was lent is changed, and nothing is answered but the number */
     GIRZHANOK_MEMORY = 2,               /* the heap has no room for the allocation */
     GIRZHANOK_STATE = 9,                /* a state that cannot belong to the buffers */
-    GIRZHANOK_SIZE = 10,                /* a size or the base outside the limits, too few words of a state, ends of tables that do not rise from
-                                         * 0 to the number of entries, or not as many ends, or defaults, as first keys */
+    GIRZHANOK_SIZE = 10,                /* a size or the base outside the limits, too few words of a state, ends of tables that fall, or whose
+                                         * last, 0 where there is none, is not the number of entries, or not as many ends, or defaults,
+                                         * as first keys */
     GIRZHANOK_NO_HALT = 11,             /* code whose last word has another byte 0 than 59; empty code is taken */
     GIRZHANOK_OPCODE = 12,              /* 40 to 49, or above 60 */
     GIRZHANOK_OPERAND = 13,             /* a register above 31, a kind, an alignment, or an unused byte that is not zero */
@@ -116,6 +119,10 @@ enum {
 /* Starts a machine with an empty heap at `base`: registers 0, pc 0, depth 1, no name. Writes the state, frame 0 and page 0 of the heap; of slots
  * and spare it reads the sizes. No buffer need be cleared before.
  * Refusals: SIZE, NO_HALT, TABLE_TARGET, then word by word OPCODE, OPERAND, TARGET, INDEX. */
+#if defined(__GNUC__) && !defined(__clang__) && __GNUC__ >= 11
+/* slots and spare: from this gcc knows that they may be lent as malloc gives them, and does not warn */
+__attribute__((access(none, 26), access(none, 28)))
+#endif
 uint64_t girzhanok_start(uint64_t *state, size_t state_len, uint64_t base,
                          const uint64_t *code, size_t code_len,
                          const uint64_t *globals, size_t globals_len,
@@ -132,7 +139,8 @@ uint64_t girzhanok_start(uint64_t *state, size_t state_len, uint64_t base,
                          const uint64_t *spare, size_t spare_len);
 
 /* Runs the image from the stored pc on, `budget` instructions at most; it need not be the image of the start. Unless refused, writes the state,
- * frames, the pushed pages of the heap, `pc`, and to `steps` the instructions completed. Ends 0 to 8; refusals as of a start, then STATE. */
+ * frames, the pushed pages of the heap, `pc`, and to `steps` the instructions completed. A number up to 8 is an end; from 9 on the run is refused:
+ * as a start is, then STATE. */
 uint64_t girzhanok_run(uint64_t *state, size_t state_len, uint32_t budget,
                        const uint64_t *code, size_t code_len,
                        const uint64_t *globals, size_t globals_len,
@@ -169,9 +177,10 @@ uint64_t girzhanok_allocate(uint64_t *state, size_t state_len, uint64_t kind, si
 uint64_t girzhanok_option(uint64_t *state, size_t state_len, bool some, uint64_t payload,
                           uint8_t *heap, size_t heap_len, uint64_t *value);
 
-/* The one address of a name. Its block holds the length, 4 bytes, the hash, 4 bytes, and the name's bytes. A known name is answered even where
- * slots or heap are full. Writes the state, the pushed pages of the heap, the slots in use, where their number grows the spare ones, and
- * to `value` the address. Refusals: SIZE, STATE, TABLE_FULL, MEMORY. */
+/* The address of a name: that of its first interning, unless a program has since written over its block; then it is stored anew. The block holds
+ * the length, 4 bytes, the hash, 4 bytes, and the name's bytes. A known name is answered even where slots or heap are full. Writes the state, the
+ * pushed pages of the heap, the slots in use, where their number grows the spare ones, and to `value` the address.
+ * Refusals: SIZE, STATE, TABLE_FULL, MEMORY. */
 uint64_t girzhanok_intern(uint64_t *state, size_t state_len, const uint8_t *name, size_t name_len,
                           uint8_t *heap, size_t heap_len, uint64_t *slots, size_t slots_len, uint64_t *spare, size_t spare_len,
                           uint64_t *value);

@@ -30,6 +30,8 @@
 //! Nothing is ever freed: blocks, options and names stay until a new start empties the heap. What a call costs: every run first tests the
 //! whole image and the frames in use, however short it is, and every interning all active slots, also of a name that is known.
 //!
+//! Doubles are what IEEE 754 says as long as the thread's floating-point mode is the default: to nearest, subnormals kept.
+//!
 //! Memory safety rests on the borrow rules, which keep the lent buffers apart, and on the library's proof, which keeps every access
 //! inside them.
 #![warn(missing_docs)]
@@ -96,7 +98,8 @@ pub enum Kind {
 pub struct Ran {
     /// Why it ended.
     pub end: End,
-    /// The place of the instruction that ended it, or of the next where the budget is completed.
+    /// The place of the instruction that ended it, or of the next where the budget is completed; where there was nothing to run, the
+    /// stored pc.
     pub pc: usize,
     /// Instructions completed.
     pub steps: u32,
@@ -269,8 +272,8 @@ impl State {
         Ok(value)
     }
 
-    /// The one address of a name. Its block holds the length, 4 bytes, the hash, 4 bytes, and the name's bytes. A known name is answered even
-    /// where slots or heap are full.
+    /// The address of a name: that of its first interning, unless a program has since written over its block; then it is stored anew. The
+    /// block holds the length, 4 bytes, the hash, 4 bytes, and the name's bytes. A known name is answered even where slots or heap are full.
     ///
     /// Refused by `Size`, `State`, `TableFull`, `Memory`.
     pub fn intern(&mut self, name: &[u8], heap: &mut [u8], slots: &mut [u64], spare: &mut [u64]) -> Result<u64, Refusal> {
