@@ -1,7 +1,11 @@
 """How numbers and bytes are written, in listings and in cases."""
 
+import math
 import re
 import struct
+
+# without a leading 0
+DECIMAL = "(?:0|[1-9][0-9]*)"
 
 
 class Wrong(Exception):
@@ -10,14 +14,14 @@ class Wrong(Exception):
 
 def integer(token):
     """Decimal or 0x.., with or without a minus sign; None where it is neither. 07 is neither."""
-    return int(token, 0) if re.fullmatch(r"-?(0|[1-9]\d*|0x[0-9a-fA-F]+)", token) else None
+    return int(token, 0) if re.fullmatch(rf"-?(?:{DECIMAL}|0x[0-9a-fA-F]+)", token) else None
 
 
 def number(token, base=None):
     """An integer, the pattern of a double such as 1.5f64, or, where the heap's base is known, `base` or `base+16`; else None."""
-    if re.fullmatch(r"-?\d+(\.\d+)?([eE][-+]?\d+)?f64", token):
+    if re.fullmatch(r"-?[0-9]+(\.[0-9]+)?([eE][-+]?[0-9]+)?f64", token) and math.isfinite(float(token[:-3])):
         return struct.unpack(">Q", struct.pack(">d", float(token[:-3])))[0]
-    if base is not None and re.fullmatch(r"base(\+\d+)?", token):
+    if base is not None and re.fullmatch(rf"base(\+{DECIMAL})?", token):
         return base + int(token[5:] or "0")
     return integer(token)
 
