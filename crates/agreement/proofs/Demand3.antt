@@ -6,11 +6,9 @@ use mathlib.Core.Option.{Option, none, some}
 use mathlib.Core.List.{List, [], _∷_, _++_}
 use native.Mathlib.Omega.{arith}
 use lib.ListN.{length}
-use Rattle.gc.specs.Lent.{numbersOf}
-use Rattle.vm.specs.declared.State.{State}
 use Rattle.vm.specs.Core.{Sizes, Core, used, short, spent, _⊑_, setPc, setMemory}
 use Rattle.program.specs.Image.{Image, failing}
-use Rattle.vm.specs.Machine.{Machine, sizes, view, Host, Call, run, setting, host, Answer, ended, value, done, refused, ranOut, Called, runs}
+use Rattle.vm.specs.Machine.{Machine, sizes, stateOf, Host, Call, run, setting, host, Answer, ended, value, done, refused, ranOut, Called, runs}
 use Rattle.vm.specs.Machine.{hosted, granted, act, tried}
 use Rattle.vm.proofs.Fits.{short-spent, short-up}
 use Rattle.vm.proofs.Runs.{runs-good, CutOn, runs-up}
@@ -27,30 +25,9 @@ raised-tests (run im b) m c = refl
 raised-tests (setting k) m c = refl
 raised-tests (host k) m c = refl
 
--- the numbers of a machine's state are those of the core that it holds
-abbrev stateOf : Core → State
-stateOf c =
-    record {
-      regs = c .regs;
-      pc = c .pc;
-      depth = length (c .frames);
-      gc = numbersOf (c .memory .pages);
-      strings = record { active = length (c .memory .slots); len = c .memory .names };
-    }
-
-same-state : (s t : State) → s .regs ≡ t .regs → s .pc ≡ t .pc → s .depth ≡ t .depth → s .gc ≡ t .gc → s .strings ≡ t .strings → s ≡ t
-same-state s t a b d e f =
-    let k : s ≡ record { regs = t .regs; pc = t .pc; depth = t .depth; gc = t .gc; strings = t .strings } = rw (← a, ← b, ← d, ← e, ← f) refl in
-    k
-
-state-is : (n : Sizes) (c : Core) (m : Machine) → Holds n c m → m .state ≡ stateOf c
-unfolding view
-state-is n c m h = same-state (m .state) (stateOf c) (ap (λ (d : Core). d .regs) (h .core)) (ap (λ (d : Core). d .pc) (h .core)) (h .depth)
-    (h .gc) (h .strings)
-
 same : (S L : Sizes) (c : Core) (s l : Machine) → Holds S c s → Holds L c l → Same s l
 unfolding Same
-same S L c s l hs hl = (state-is S c s hs ∙ sym (state-is L c l hl), hs .core ∙ sym (hl .core))
+same S L c s l hs hl = (hs .state ∙ sym (hl .state), hs .core ∙ sym (hl .core))
 
 -- after a call that no test refuses the machine holds a core, and it is the same core on both machines where the smaller did not run out
 module _ (S L : Sizes) (le : S ⊑ L) (room : 1 ≤ S .frames) (c : Core) (s l : Machine) (hs : Holds S c s) (hl : Holds L c l) where
@@ -99,11 +76,14 @@ module _ (S L : Sizes) (le : S ⊑ L) (room : 1 ≤ S .frames) (c : Core) (s l :
   -- the run in which the smaller runs out
   cut-lift : (im : Image) (d : Core) (t : Machine) (a : Answer) → Holds S d t → failing (testsOn (run im 0) c) ≡ none
       → CutOn S L le im (length (im .code)) c d a → CutAt im t l a
-  unfolding CutAt testsOn testsBy tried setPc
+  unfolding CutAt testsOn testsBy tried setPc stateOf
   cut-lift im d t (ended e p n) v f (x, y) =
       let k = length (im .code) in
       let h = holds-run L c l hl (runs L im n k c) (runs-good L im n k c (hl .fits)) in
-      rw (perform-is L (run im n) c l hl, f, run-is L im n c l hl, v .core, state-is S d t v) (x, state-is L _ _ h ∙ ap stateOf y, h .core ∙ y)
+      rw (perform-is L (run im n) c l hl, f, run-is L im n c l hl) (
+        x,
+        record { state = rw (v .state, h .state) (ap stateOf (y .same)); held = rw (v .core, h .core) (y .same) },
+      )
   cut-lift im d t (value w) v f x = absurd x
   cut-lift im d t done v f x = absurd x
   cut-lift im d t (refused e) v f x = absurd x

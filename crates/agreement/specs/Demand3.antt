@@ -4,10 +4,9 @@ use mathlib.Core.Path.{_≡_}
 use Prim.Native.Nat.{ℕ, _+_}
 use mathlib.Core.Bool.{true, false}
 use mathlib.Core.List.{List, [], _∷_}
-use Rattle.vm.specs.declared.State.{State}
 use Rattle.vm.specs.Core.{_⊑_, setPc}
 use Rattle.program.specs.Image.{Image}
-use Rattle.vm.specs.Machine.{Lent, Machine, sizes, view, Call, run, setting, host, Answer, ended, value, done, refused, ranOut, perform, begun, start}
+use Rattle.vm.specs.Machine.{Lent, Machine, sizes, keepPc, view, Call, run, setting, host, Answer, ended, value, done, refused, ranOut, perform, begun, start}
 
 -- a call made on both machines, with the same arguments; 'each run is lent an image, .. the same on both machines'. `more` is what the
 -- larger's budget has on top
@@ -25,17 +24,14 @@ raised (host k) n = host k
 unfoldable pub Same : Machine → Machine → Type 0
 Same s l = (s .state ≡ l .state) × (view s ≡ view l)
 
--- a state with another pc
-abbrev pub atPc : ℕ → State → State
-atPc p s = record { regs = s .regs; pc = p; depth = s .depth; gc = s .gc; strings = s .strings }
-
 -- 'n is the steps in the smaller's answer; the larger answers 5, n, and as next pc the place of the instruction the smaller stopped at or
--- would do next; stored pcs aren't compared there'. s is the smaller after that run, l the larger before it
+-- would do next; stored pcs aren't compared there'. s is the smaller after that run, l the larger before it, t the larger after it
+pub record CutTo (s t : Machine) (p : ℕ) : Type 0 where
+  pub state : t .state ≡ keepPc p (s .state)
+  pub held : view t ≡ setPc p (view s)
+
 unfoldable pub CutAt : Image → Machine → Machine → Answer → Type 0
-CutAt im s l (ended e p n) =
-    (perform (run im n) l .answer ≡ ended 5 p n)
-    × (perform (run im n) l .machine .state ≡ atPc p (s .state))
-    × (view (perform (run im n) l .machine) ≡ setPc p (view s))
+CutAt im s l (ended e p n) = (perform (run im n) l .answer ≡ ended 5 p n) × CutTo s (perform (run im n) l .machine) p
 CutAt im s l (value v) = ⊥
 CutAt im s l done = ⊥
 CutAt im s l (refused e) = ⊥

@@ -28,11 +28,11 @@ use Rattle.gc.specs.Lent as Heap
 use Rattle.op.specs.Decode as Op
 use Rattle.op.specs.Decode.{decodedBy, decodeOf}
 use Rattle.op.specs.Reach.{checkOf}
-use Rattle.vm.specs.Core.{used, lacking, short, setReg, setPc, setFrames, setMemory, setPages, setBytes}
+use Rattle.vm.specs.Core.{used, needs, short, setRegs, setPc, setFrames, setMemory, setPages, setBytes}
 use Rattle.program.specs.Image.{Image, Tables, startOf, entriesOf, counts, rising, tablesOk, imageOk, endsInHalt, below, wordTest}
 use Rattle.program.specs.Image.{wordTests, imageTests, failing}
 use Rattle.program.specs.Effect.{divided, jumpIf, within, slot, switched, effectOf, wordEffect}
-use Rattle.vm.specs.Run.{provided, forward, addressed, loaded, stored8, returned, blockTo, apply, fetched, unless, limited, step, after, go}
+use Rattle.vm.specs.Run.{provided, forward, addressed, loaded, stored8, returned, blockTo, apply, fetched, asked, unless, limited, step, after, go}
 use Rattle.vm.specs.Run.{root, entered, stored}
 use Rattle.vm.specs.Names as Names
 use Rattle.vm.specs.Machine.{Lent, Machine, sizes, memoryOf, view, withPages, withNames, traced, withFrames, withRegs, allocate, option}
@@ -188,10 +188,10 @@ unfolding rows hold lent startedIn started afterAll said summed singles shown sw
     signed pattern Int.divided bits isNan ofBits toBits ofInt toSigned mixed folded chunks hashOf smallHashOf payloadOf reaches headed holds
     home probe lookup never filled placed storedHash movedOne moved roomOf widened withRoom spareAfter Table.slotCount Table.activeOk
     Table.filledIn Table.headersIn Table.countOk Table.slotsOk Table.soundOf headerOf Pages.growOf Pages.gapOf Pages.holds
-    Pages.block Pages.pushed Pages.fitted Pages.allocated pagesOf numbersOf Heap.soundOf Op.rows decodedBy decodeOf checkOf used lacking
-    short setReg setPc setFrames setMemory setPages setBytes startOf entriesOf counts rising tablesOk imageOk endsInHalt below wordTest
+    Pages.block Pages.pushed Pages.fitted Pages.allocated pagesOf numbersOf Heap.soundOf Op.rows decodedBy decodeOf checkOf used needs
+    short setRegs setPc setFrames setMemory setPages setBytes startOf entriesOf counts rising tablesOk imageOk endsInHalt below wordTest
     wordTests imageTests divided jumpIf within slot switched effectOf provided forward addressed loaded stored8 returned blockTo apply
-    wordEffect fetched unless limited step after go root entered stored Names.filled Names.asGiven Names.allocates Names.boxed Names.optional
+    wordEffect fetched asked unless limited step after go root entered stored Names.filled Names.asGiven Names.allocates Names.boxed Names.optional
     Names.tabled Names.fresh Names.known Names.interned sizes memoryOf view withPages withNames traced withFrames withRegs ran idle runs
     hosted withSetting laid runLeaves hostLeaves granted hostCall runCall act framesOk heapOk slotsOk returnsOk framesBelong pagesBelong
     namesBelong smallOk tests testsBy failing tried perform firstPage firstMemory blank begin starts start

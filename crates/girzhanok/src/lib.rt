@@ -1,9 +1,8 @@
 // The machine's calls for C and Rust: include/girzhanok.h says what each one takes and writes. A call on too few words is refused with 10.
 ghost use mathlib.Core.Path.{_≡_};
-ghost use mathlib.Core.List.{List, [], _∷_};
-ghost use Prim.Native.Nat.{ℕ};
+ghost use mathlib.Core.List.{[], _∷_};
 ghost use Rattle.program.specs.Image.{tablesOf, imageOf};
-ghost use Rattle.vm.specs.Machine.{Lent, run, setting, reset, putPc, putReg, host, allocate, option, intern, internSmall};
+ghost use Rattle.vm.specs.Machine.{Lent, lendFrames, lendHeap, lendRun, lendNames, run, setting, reset, putPc, putReg, host, allocate, option, intern, internSmall};
 ghost use Rattle.vm.specs.Told.{lentOf};
 ghost use Rattle.girzhanok.specs.Served.{servedOf, given, serve, serveStart};
 
@@ -91,14 +90,14 @@ pub extern "C" fn girzhanok_run(
     pc: &mut usize,
     steps: &mut Steps,
 ) -> u64
-    ensures { λ r. ⌜ ((slots spare : List ℕ)
+    ensures { λ r. ⌜ ((l : Lent)
         → servedOf r (now (state .exit)) (now (pc .exit) ∷ now (steps .exit) ∷ [])
-        (lentOf (now (frames .exit)) (now (heap .exit)) slots spare)
+        (lendRun (now (frames .exit)) (now (heap .exit)) l)
         ≡ serve (run (imageOf (now (code .entry)) (now (globals .entry))
         (tablesOf (now («switch_firsts» .entry)) (now («switch_ends» .entry)) (now («switch_entries» .entry)))
         (tablesOf (now («lookup_firsts» .entry)) (now («lookup_ends» .entry)) (now («lookup_entries» .entry))) (now (defaults .entry)))
         budget) (now (state .entry)) (now (pc .entry) ∷ now (steps .entry) ∷ [])
-        (lentOf (now (frames .entry)) (now (heap .entry)) slots spare)) ⌝ }
+        (lendRun (now (frames .entry)) (now (heap .entry)) l)) ⌝ }
 {
     if state.len() < STATE_WORDS {
         return Refusal::SIZE;
@@ -123,9 +122,9 @@ pub extern "C" fn girzhanok_run(
 
 #[no_mangle]
 pub extern "C" fn girzhanok_reset(state: &mut [u64], frames: &mut [u64]) -> u64
-    ensures { λ r. ⌜ ((heap slots spare : List ℕ)
-        → servedOf r (now (state .exit)) [] (lentOf (now (frames .exit)) heap slots spare)
-        ≡ serve (setting reset) (now (state .entry)) [] (lentOf (now (frames .entry)) heap slots spare)) ⌝ }
+    ensures { λ r. ⌜ ((l : Lent)
+        → servedOf r (now (state .exit)) [] (lendFrames (now (frames .exit)) l)
+        ≡ serve (setting reset) (now (state .entry)) [] (lendFrames (now (frames .entry)) l)) ⌝ }
 {
     if state.len() < STATE_WORDS {
         return Refusal::SIZE;
@@ -166,10 +165,10 @@ pub extern "C" fn girzhanok_allocate(
     heap: &mut [u8],
     value: &mut u64,
 ) -> u64
-    ensures { λ r. ⌜ ((frames slots spare : List ℕ)
-        → servedOf r (now (state .exit)) (now (value .exit) ∷ []) (lentOf frames (now (heap .exit)) slots spare)
+    ensures { λ r. ⌜ ((l : Lent)
+        → servedOf r (now (state .exit)) (now (value .exit) ∷ []) (lendHeap (now (heap .exit)) l)
         ≡ serve (host (allocate kind align size)) (now (state .entry)) (now (value .entry) ∷ [])
-        (lentOf frames (now (heap .entry)) slots spare)) ⌝ }
+        (lendHeap (now (heap .entry)) l)) ⌝ }
 {
     if state.len() < STATE_WORDS {
         return Refusal::SIZE;
@@ -187,10 +186,10 @@ pub extern "C" fn girzhanok_option(
     heap: &mut [u8],
     value: &mut u64,
 ) -> u64
-    ensures { λ r. ⌜ ((frames slots spare : List ℕ)
-        → servedOf r (now (state .exit)) (now (value .exit) ∷ []) (lentOf frames (now (heap .exit)) slots spare)
+    ensures { λ r. ⌜ ((l : Lent)
+        → servedOf r (now (state .exit)) (now (value .exit) ∷ []) (lendHeap (now (heap .exit)) l)
         ≡ serve (host (option (given some payload))) (now (state .entry)) (now (value .entry) ∷ [])
-        (lentOf frames (now (heap .entry)) slots spare)) ⌝ }
+        (lendHeap (now (heap .entry)) l)) ⌝ }
 {
     if state.len() < STATE_WORDS {
         return Refusal::SIZE;
@@ -208,11 +207,11 @@ pub extern "C" fn girzhanok_intern(
     spare: &mut [u64],
     value: &mut u64,
 ) -> u64
-    ensures { λ r. ⌜ ((frames : List ℕ)
+    ensures { λ r. ⌜ ((l : Lent)
         → servedOf r (now (state .exit)) (now (value .exit) ∷ [])
-        (lentOf frames (now (heap .exit)) (now (slots .exit)) (now (spare .exit)))
+        (lendNames (now (heap .exit)) (now (slots .exit)) (now (spare .exit)) l)
         ≡ serve (host (intern (now (name .entry)))) (now (state .entry)) (now (value .entry) ∷ [])
-        (lentOf frames (now (heap .entry)) (now (slots .entry)) (now (spare .entry)))) ⌝ }
+        (lendNames (now (heap .entry)) (now (slots .entry)) (now (spare .entry)) l)) ⌝ }
 {
     if state.len() < STATE_WORDS {
         return Refusal::SIZE;
@@ -233,11 +232,11 @@ pub extern "C" fn girzhanok_intern_small(
     spare: &mut [u64],
     value: &mut u64,
 ) -> u64
-    ensures { λ r. ⌜ ((frames : List ℕ)
+    ensures { λ r. ⌜ ((l : Lent)
         → servedOf r (now (state .exit)) (now (value .exit) ∷ [])
-        (lentOf frames (now (heap .exit)) (now (slots .exit)) (now (spare .exit)))
+        (lendNames (now (heap .exit)) (now (slots .exit)) (now (spare .exit)) l)
         ≡ serve (host (internSmall len word)) (now (state .entry)) (now (value .entry) ∷ [])
-        (lentOf frames (now (heap .entry)) (now (slots .entry)) (now (spare .entry)))) ⌝ }
+        (lendNames (now (heap .entry)) (now (slots .entry)) (now (spare .entry)) l)) ⌝ }
 {
     if state.len() < STATE_WORDS {
         return Refusal::SIZE;

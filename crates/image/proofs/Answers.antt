@@ -22,7 +22,7 @@ use Rattle.vm.specs.Machine.{Lent, Machine, Answer, ended, value, done, refused
 use Rattle.vm.specs.declared.State.{State}
 use Rattle.vm.specs.declared.Reply.{Reply}
 use Rattle.vm.proofs.Reply as replies
-use Rattle.vm.specs.Told.{lentOf, machineOf, answerOf, saidOf, startedOn}
+use Rattle.vm.specs.Told.{machineOf, answerOf, saidOf, startedOn}
 use Rattle.image.specs.Runner.{imageWith, imageIn, Interned, internAll, WritesText, summaryOf, replyText, runText, answerText}
 use Rattle.image.specs.Runner.{internedText, namedText, startedText}
 
@@ -110,13 +110,10 @@ module _ (s : List ℕ) (h : Head) (base : ℕ) (l : Lent) (x : Started) (r : Re
     pub names-say : (saidOf r′ ≡ done → ⊥) → replyText (saidOf r′) ≡ startedText s h x
     names-say n = names-refused s h _ (saidOf r′) m′ g′ entered n ∙ named
 
-    -- a run is lent no slots, and says the same whatever they are
-    pub run-says : saidOf r′ ≡ done → (im : Image) → im ≡ imageWith g′ s → (b : ℕ) → b ≡ h .budget → (st : State) (f p k q : List ℕ)
-        → m′ ≡ machineOf st (lentOf f p k q)
-        → (c : List ℕ → List ℕ → Called) → ((k q : List ℕ) → c k q ≡ perform (run im b) (machineOf st (lentOf f p k q)))
-        → answerText (c k q) ≡ startedText s h x
-    run-says d′ im i b n st f p k q is c e =
-        let here : c k q ≡ perform (run (imageWith g′ s) (h .budget)) m′ = e k q ∙ rw (is, n, i) refl in
+    pub run-says : saidOf r′ ≡ done → (im : Image) → im ≡ imageWith g′ s → (b : ℕ) → b ≡ h .budget → (st : State) (lent : Lent)
+        → m′ ≡ machineOf st lent → (c : Called) → c ≡ perform (run im b) (machineOf st lent) → answerText c ≡ startedText s h x
+    run-says d′ im i b n st lent is c e =
+        let here : c ≡ perform (run (imageWith g′ s) (h .budget)) m′ = e ∙ rw (is, n, i) refl in
         ap answerText here ∙ names-done s h _ m′ g′ (rw d′ at entered) ∙ named
 
 -- a text said in another way

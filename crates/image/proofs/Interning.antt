@@ -15,7 +15,7 @@ use Rattle.text.specs.Names.{Name, namesOf, nameOf, answerOf, bytesOf}
 use Rattle.text.proofs.Indices.{nth-some, nth-none, global-within, names-in, name-short}
 use Rattle.vm.specs.declared.Reply.{Reply}
 use Rattle.vm.specs.Told.{saidOf}
-use Rattle.vm.specs.Machine.{Machine, Answer, ended, value, done, refused, Called, host, intern, perform}
+use Rattle.vm.specs.Machine.{Lent, Machine, Answer, ended, value, done, refused, Called, host, intern, perform}
 use Rattle.image.specs.Runner.{internOn, internAll}
 
 -- a name that was answered
@@ -31,22 +31,22 @@ none-by none e = refl
 none-by (some name) e = let z : _≡_ {A = ℕ} 0 1 = cc in absurd (omega arith)
 
 -- where the loop has come to
-pub record Interning (s : List ℕ) (m₀ : List ℕ → Machine) (g₀ : List ℕ) (m : List ℕ → Machine) (g : List ℕ) (i : ℕ) : Type 0 where
-  pub left : (frames : List ℕ) → internAll (drop i (namesOf 0 (linesOf s))) (m frames) g ≡ internAll (namesOf 0 (linesOf s)) (m₀ frames) g₀
+pub record Interning (s : List ℕ) (m₀ : Lent → Machine) (g₀ : List ℕ) (m : Lent → Machine) (g : List ℕ) (i : ℕ) : Type 0 where
+  pub left : (l : Lent) → internAll (drop i (namesOf 0 (linesOf s))) (m l) g ≡ internAll (namesOf 0 (linesOf s)) (m₀ l) g₀
   pub few : i ≤ length (namesOf 0 (linesOf s))
   pub long : length g ≡ length g₀
 
-pub interning-first : (s : List ℕ) (m : List ℕ → Machine) (g : List ℕ) → Interning s m g m g 0
-interning-first s m g = record { left = λ frames. refl; few = omega arith; long = refl }
+pub interning-first : (s : List ℕ) (m : Lent → Machine) (g : List ℕ) → Interning s m g m g 0
+interning-first s m g = record { left = λ l. refl; few = omega arith; long = refl }
 
-module _ {s : List ℕ} {m₀ : List ℕ → Machine} {g₀ : List ℕ} {m : List ℕ → Machine} {g : List ℕ} {i : ℕ} (e : Interning s m₀ g₀ m g i) where
+module _ {s : List ℕ} {m₀ : Lent → Machine} {g₀ : List ℕ} {m : Lent → Machine} {g : List ℕ} {i : ℕ} (e : Interning s m₀ g₀ m g i) where
   abbrev names : List Name
   names = namesOf 0 (linesOf s)
 
-  pub interned-all : answerOf (nameOf i s) ≡ Named.Missing → (frames : List ℕ)
-      → record { called = record { answer = done; machine = m frames }; globals = g } ≡ internAll names (m₀ frames) g₀
+  pub interned-all : answerOf (nameOf i s) ≡ Named.Missing → (l : Lent)
+      → record { called = record { answer = done; machine = m l }; globals = g } ≡ internAll names (m₀ l) g₀
   unfolding internAll
-  interned-all q frames = (rw (nth-none i names (none-by (nameOf i s) q)) at (e .left frames))
+  interned-all q l = (rw (nth-none i names (none-by (nameOf i s) q)) at (e .left l))
 
   module _ {global len : ℕ} (q : answerOf (nameOf i s) ≡ Named.At global len) where
     here : (name : Name) × (nameOf i s ≡ some name) × (name .global ≡ global) × (length (name .bytes) ≡ len)
@@ -77,64 +77,64 @@ module _ {s : List ℕ} {m₀ : List ℕ → Machine} {g₀ : List ℕ} {m : Lis
     more-left = nth-some i names (here .0) (here .1) .0
 
     -- the call of this name
-    abbrev its : List ℕ → Called
-    its frames = perform (host (intern (here .0 .bytes))) (m frames)
+    abbrev its : Lent → Called
+    its l = perform (host (intern (here .0 .bytes))) (m l)
 
-    turn : (frames : List ℕ) → internOn (its frames .answer) (its frames) g (here .0 .global) (internAll (drop (i + 1) names))
-        ≡ internAll names (m₀ frames) g₀
+    turn : (l : Lent) → internOn (its l .answer) (its l) g (here .0 .global) (internAll (drop (i + 1) names))
+        ≡ internAll names (m₀ l) g₀
     unfolding internAll
-    turn frames = rw (nth-some i names (here .0) (here .1) .1) at (e .left frames)
+    turn l = rw (nth-some i names (here .0) (here .1) .1) at (e .left l)
 
-    answered : (frames : List ℕ) {a : Answer} → its frames .answer ≡ a
-        → internOn a (its frames) g (here .0 .global) (internAll (drop (i + 1) names)) ≡ internAll names (m₀ frames) g₀
-    answered frames p = subst (λ (a : Answer). internOn a (its frames) g (here .0 .global) (internAll (drop (i + 1) names))
-        ≡ internAll names (m₀ frames) g₀) p (turn frames)
+    answered : (l : Lent) {a : Answer} → its l .answer ≡ a
+        → internOn a (its l) g (here .0 .global) (internAll (drop (i + 1) names)) ≡ internAll names (m₀ l) g₀
+    answered l p = subst (λ (a : Answer). internOn a (its l) g (here .0 .global) (internAll (drop (i + 1) names))
+        ≡ internAll names (m₀ l) g₀) p (turn l)
 
-    value-on : (frames : List ℕ) (v : ℕ) → its frames .answer ≡ value v
-        → internAll (drop (i + 1) names) (its frames .machine) (set g (here .0 .global) v) ≡ internAll names (m₀ frames) g₀
+    value-on : (l : Lent) (v : ℕ) → its l .answer ≡ value v
+        → internAll (drop (i + 1) names) (its l .machine) (set g (here .0 .global) v) ≡ internAll names (m₀ l) g₀
     unfolding internOn
-    value-on frames v p = answered frames p
+    value-on l v p = answered l p
 
-    ended-on : (frames : List ℕ) (a : Answer) → its frames .answer ≡ a → ((v : ℕ) → a ≡ value v → ⊥)
-        → record { called = its frames; globals = g } ≡ internAll names (m₀ frames) g₀
+    ended-on : (l : Lent) (a : Answer) → its l .answer ≡ a → ((v : ℕ) → a ≡ value v → ⊥)
+        → record { called = its l; globals = g } ≡ internAll names (m₀ l) g₀
     unfolding internOn
-    ended-on frames (value v) p n = absurd (n v refl)
-    ended-on frames (refused k) p n = answered frames p
-    ended-on frames done p n = answered frames p
-    ended-on frames (ended k pc steps) p n = answered frames p
+    ended-on l (value v) p n = absurd (n v refl)
+    ended-on l (refused k) p n = answered l p
+    ended-on l done p n = answered l p
+    ended-on l (ended k pc steps) p n = answered l p
 
     -- the call as it was made, of bytes that are the name's
     module _ {b : List ℕ} (back : b ≡ bytesOf (nameOf i s)) where
-      abbrev call : List ℕ → Called
-      call frames = perform (host (intern b)) (m frames)
+      abbrev call : Lent → Called
+      call l = perform (host (intern b)) (m l)
 
-      call-is : (frames : List ℕ) → call frames ≡ its frames
-      call-is frames = ap (λ (x : List ℕ). perform (host (intern x)) (m frames)) (back ∙ bytes-are)
+      call-is : (l : Lent) → call l ≡ its l
+      call-is l = ap (λ (x : List ℕ). perform (host (intern x)) (m l)) (back ∙ bytes-are)
 
-      value-by : (frames : List ℕ) (v : ℕ) (m′ : Machine) → record { answer = value v; machine = m′ } ≡ call frames
-          → internAll (drop (i + 1) names) m′ (set g global v) ≡ internAll names (m₀ frames) g₀
-      value-by frames v m′ c =
-          let is : record { answer = value v; machine = m′ } ≡ its frames = c ∙ call-is frames in
+      value-by : (l : Lent) (v : ℕ) (m′ : Machine) → record { answer = value v; machine = m′ } ≡ call l
+          → internAll (drop (i + 1) names) m′ (set g global v) ≡ internAll names (m₀ l) g₀
+      value-by l v m′ c =
+          let is : record { answer = value v; machine = m′ } ≡ its l = c ∙ call-is l in
           ap₂ (λ (x : Machine) (y : ℕ). internAll (drop (i + 1) names) x (set g y v)) (ap (λ (x : Called). x .machine) is) (sym (here .2))
-          ∙ value-on frames v (sym (ap (λ (x : Called). x .answer) is))
+          ∙ value-on l v (sym (ap (λ (x : Called). x .answer) is))
 
-      pub interning-next : {r : Reply} {v : ℕ} → r ≡ Reply.Value v → (m′ : List ℕ → Machine)
-          → ((frames : List ℕ) → record { answer = saidOf r; machine = m′ frames } ≡ call frames) → Interning s m₀ g₀ m′ (set g global v) (i + 1)
+      pub interning-next : {r : Reply} {v : ℕ} → r ≡ Reply.Value v → (m′ : Lent → Machine)
+          → ((l : Lent) → record { answer = saidOf r; machine = m′ l } ≡ call l) → Interning s m₀ g₀ m′ (set g global v) (i + 1)
       unfolding saidOf
       interning-next {r} {v} is m′ c =
           record {
-            left = λ frames. value-by frames v (m′ frames) (rw is at (c frames));
+            left = λ l. value-by l v (m′ l) (rw is at (c l));
             few = let k = more-left in omega arith;
             long = length-set g global v ∙ e .long;
           }
 
-      pub interned-some : (x : List ℕ → Called) → ((frames : List ℕ) → x frames ≡ call frames)
-          → ((frames : List ℕ) (v : ℕ) → x frames .answer ≡ value v → ⊥)
-          → (frames : List ℕ) → record { called = x frames; globals = g } ≡ internAll names (m₀ frames) g₀
-      interned-some x c n frames =
-          let is : x frames ≡ its frames = c frames ∙ call-is frames in
+      pub interned-some : (x : Lent → Called) → ((l : Lent) → x l ≡ call l)
+          → ((l : Lent) (v : ℕ) → x l .answer ≡ value v → ⊥)
+          → (l : Lent) → record { called = x l; globals = g } ≡ internAll names (m₀ l) g₀
+      interned-some x c n l =
+          let is : x l ≡ its l = c l ∙ call-is l in
           ap (λ (y : Called). record { called = y; globals = g }) is
-          ∙ ended-on frames (its frames .answer) refl (λ v z. n frames v (ap (λ (y : Called). y .answer) is ∙ z))
+          ∙ ended-on l (its l .answer) refl (λ v z. n l v (ap (λ (y : Called). y .answer) is ∙ z))
 
   pub few-names : i ≤ length s
   few-names = let k = e .few in let n = names-in s in omega arith

@@ -20,8 +20,8 @@ use Rattle.op.specs.Decode.{decodedBy, decodeOf}
 use Rattle.op.specs.Reach.{checkOf}
 use Rattle.program.specs.Image.{startOf, entriesOf, counts, rising, tablesOk, imageOk, endsInHalt, below, wordTest, wordTests, imageTests, failing}
 use Rattle.program.specs.Effect.{within, effectOf, wordEffect}
-use Rattle.vm.specs.Core.{used, lacking, short, setReg, setPc, setFrames, setMemory, setPages, setBytes}
-use Rattle.vm.specs.Run.{provided, forward, addressed, loaded, stored8, returned, blockTo, apply, fetched, unless, limited, step, after, go}
+use Rattle.vm.specs.Core.{used, needs, short, setRegs, setPc, setFrames, setMemory, setPages, setBytes}
+use Rattle.vm.specs.Run.{provided, forward, addressed, loaded, stored8, returned, blockTo, apply, fetched, asked, unless, limited, step, after, go}
 use Rattle.vm.specs.Run.{root, entered, stored}
 use Rattle.vm.specs.Names as Names
 use Rattle.vm.specs.Machine.{sizes, memoryOf, view, withPages, withNames, traced, withFrames, withRegs, ran, idle, runs, hosted, laid}
@@ -101,9 +101,9 @@ unfolding rows holdLists singles naming allocating ninePages digits worked bytes
     payloadOf reaches headed holds home probe lookup never filled placed storedHash movedOne moved roomOf widened withRoom spareAfter
     Table.slotCount Table.activeOk Table.filledIn Table.headersIn Table.countOk Table.slotsOk Table.soundOf headerOf
     Pages.growOf Pages.gapOf Pages.holds Pages.block Pages.pushed Pages.fitted Pages.allocated pagesOf numbersOf Heap.soundOf Op.rows
-    decodedBy decodeOf checkOf used lacking short setReg setPc setFrames setMemory setPages setBytes startOf entriesOf counts rising tablesOk
+    decodedBy decodeOf checkOf used needs short setRegs setPc setFrames setMemory setPages setBytes startOf entriesOf counts rising tablesOk
     imageOk endsInHalt below wordTest wordTests imageTests within effectOf wordEffect provided forward addressed loaded stored8 returned
-    blockTo apply fetched unless limited step after go root entered stored Names.filled Names.asGiven Names.allocates Names.boxed Names.tabled
+    blockTo apply fetched asked unless limited step after go root entered stored Names.filled Names.asGiven Names.allocates Names.boxed Names.tabled
     Names.fresh Names.known Names.interned sizes memoryOf view withPages withNames traced withFrames withRegs ran idle runs hosted laid
     runLeaves hostLeaves granted hostCall runCall act framesOk heapOk slotsOk returnsOk framesBelong pagesBelong namesBelong tests testsBy failing
     tried perform firstPage firstMemory blank begin starts start Digits.valueOfDigit Digits.allDigits Digits.readOn Digits.numbers

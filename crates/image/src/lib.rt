@@ -12,7 +12,7 @@ ghost use Rattle.text.specs.Text.{textOk, headOf};
 ghost use Rattle.text.specs.Names.{namesOf};
 ghost use Rattle.text.specs.Sections.{sectionIn};
 ghost use Rattle.program.specs.Image.{imageOf, tablesOf};
-ghost use Rattle.vm.specs.Machine.{start, run};
+ghost use Rattle.vm.specs.Machine.{Lent, lendNames, start, run};
 ghost use Rattle.vm.specs.Told.{lentOf, machineOf, answerOf, saidOf, told};
 ghost use Rattle.image.specs.Runner as Runner;
 ghost use Rattle.image.specs.Runner.{imageIn, lentFor, fits, roomFor, internAll, replyText, summaryOf, runText, startedText, imageText, WritesText};
@@ -101,14 +101,14 @@ fn intern_names(
     requires { ⌜ (length (now input) ≤ 65536)
         × (length (sectionIn Section.Globals (now input)) ≤ length (now globals))
         × (32768 ≤ length (now name)) ⌝ }
-    ensures { λ r. ⌜ ((frames : List ℕ)
+    ensures { λ r. ⌜ ((l : Lent)
         → record {
-          called = told r (lentOf frames (now (heap .exit)) (now (slots .exit)) (now (spare .exit)));
+          called = told r (lendNames (now (heap .exit)) (now (slots .exit)) (now (spare .exit)) l);
           globals = now
               (globals .exit);
         }
         ≡ internAll (namesOf 0 (linesOf (now (input .entry))))
-        (machineOf state (lentOf frames (now (heap .entry)) (now (slots .entry)) (now (spare .entry)))) (now (globals .entry))) ⌝ }
+        (machineOf state (lendNames (now (heap .entry)) (now (slots .entry)) (now (spare .entry)) l)) (now (globals .entry))) ⌝ }
 {
     let mut s = state;
     let mut i: usize = 0;

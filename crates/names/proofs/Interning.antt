@@ -35,17 +35,17 @@ use Rattle.gc.specs.Lent.{pagesOf, numbersOf, fits, outcome, grantedIn}
 use Rattle.vm.specs.declared.State.{State}
 use Rattle.program.specs.Image.{test, failing}
 use Rattle.program.proofs.Tests.{failing-here, failing-later}
-use Rattle.vm.specs.Core.{Memory, used, lacking, short, setMemory, setPages, setBytes}
+use Rattle.vm.specs.Core.{Memory, used, short, setMemory, setPages, setBytes}
 use Rattle.vm.specs.Names.{Given, filled, tabled, fresh, known, interned}
-use Rattle.vm.specs.Machine.{Machine, sizes, memoryOf, view, Called, value, host, intern, internSmall, withPages, withNames, hosted}
+use Rattle.vm.specs.Machine.{Lent, Machine, sizes, lendHeap, lendNames, memoryOf, view, Called, value, host, intern, internSmall, withPages, withNames, hosted}
 use Rattle.vm.specs.Machine.{hostLeaves, granted, hostCall, act, smallOk, nameTests, found, testsBy, tests}
 use Rattle.vm.specs.Machine.{perform}
 use Rattle.names.specs.declared.interner.Tested.{Tested}
-use Rattle.vm.specs.Told.{lentOf, machineOf, holding}
+use Rattle.vm.specs.Told.{machineOf, holding}
 use Rattle.names.specs.Interned.{written, nameBlock, Belong, testedOf}
 use Rattle.vm.proofs.Blocks.{Given-at, at-said, refused-said}
 use Rattle.vm.proofs.Performed.{refuses, refused-is, acted-is}
-use Rattle.vm.proofs.Fits.{take-fits, view-fits}
+use Rattle.vm.proofs.Fits.{short-names, view-within, view-fits}
 use Rattle.names.proofs.SmallOk.{small-says}
 
 -- ---- a new name
@@ -78,9 +78,18 @@ new-name name l (Probe.Found v) is = absurd (miss (1 ∷ 2 ∷ []) 0 tt is)
 new-name name l (Probe.Vacant i) is = refl
 new-name name l Probe.Full is = refl
 
-module _ (s : State) (frames heap slots spare name : List ℕ) where
+module _ (s : State) (l : Lent) (name : List ℕ) where
   abbrev machine : Machine
-  machine = machineOf s (lentOf frames heap slots spare)
+  machine = machineOf s l
+
+  abbrev heap : List ℕ
+  heap = l .heap
+
+  abbrev slots : List ℕ
+  slots = l .slots
+
+  abbrev spare : List ℕ
+  spare = l .spare
 
   module _ (b : Belong (s .gc) (s .strings) heap slots spare) where
     long : length (take (s .strings .active) slots) ≡ s .strings .active
@@ -108,27 +117,28 @@ module _ (s : State) (frames heap slots spare name : List ℕ) where
       slots-long = length-placed _ _ _ ∙ length-withRoom _ _ _ room (rw long (room-holds (s .strings .active) (s .strings .len) (b .few) .0))
 
       fresh-short : short (sizes (machine .lent)) (used (setMemory (fresh name (memoryOf machine) .memory) (view machine)))
-          ≡ lacking true (leb room (length slots)) (leb (length (made .pages .bytes)) (length heap))
-      unfolding short used sizes view setMemory
-      fresh-short = rw (fresh-is, slots-long, le-leb _ _ (take-fits (s .depth) frames)) refl
+          ≡ failing (test (leb room (length slots)) 18 ∷ test (leb (length (made .pages .bytes)) (length heap)) 2 ∷ [])
+      unfolding used sizes view setMemory
+      fresh-short = rw (fresh-is, slots-long)
+          (short-names (sizes l) (used (view machine)) (view-within machine) (length (made .pages .bytes)) room)
 
       pub fresh-18 : length slots < room → refuses 18 machine ≡ hostCall (intern name) machine (fresh name (memoryOf machine))
-      unfolding hostCall granted lacking
+      unfolding hostCall granted failing
       fresh-18 h = rw (fresh-short, lt-leb room (length slots) h) refl
 
       module _ (h : room ≤ length slots) (x : List ℕ) (r : Alloc) (e : outcome r x ≡ grantedIn made heap) where
-        pub fresh-2 : r ≡ Refused → refuses 2 (machineOf s (lentOf frames x slots spare))
+        pub fresh-2 : r ≡ Refused → refuses 2 (machineOf s (lendHeap x l))
             ≡ hostCall (intern name) machine (fresh name (memoryOf machine))
-        unfolding hostCall granted lacking fits
+        unfolding hostCall granted failing fits
         fresh-2 i =
             let no = refused-said (fits (made .pages) (length heap)) made heap x r i e in
             rw (fresh-short, le-leb room (length slots) h, no .0, no .1) refl
 
         module _ (a : ℕ) (to : Gc) (i : r ≡ At a to) where
           pub fresh-done : (t : StrTable) (y z : List ℕ) → inserted t y z ≡ insertOf (to .base) (take (to .pushed) x) hash a (s .strings) slots spare
-              → record { answer = value a; machine = machineOf (holding s to t) (lentOf frames x y z) }
+              → record { answer = value a; machine = machineOf (holding s to t) (lendNames x y z l) }
               ≡ hostCall (intern name) machine (fresh name (memoryOf machine))
-          unfolding hostCall granted lacking fits hostLeaves withNames withPages insertOf numbersOf
+          unfolding hostCall granted failing fits hostLeaves withNames withPages insertOf numbersOf
           fresh-done t y z p =
               let gives = name-given (s .gc) name hash heap x r e a to i in
               let bytes = name-bytes (s .gc) name hash heap x r e a to i in
@@ -154,7 +164,7 @@ module _ (s : State) (frames heap slots spare name : List ℕ) where
 
     own-short : short (sizes (machine .lent)) (used (setMemory (memoryOf machine) (view machine))) ≡ none
     unfolding setMemory view
-    own-short = view-fits machine (setMemory (memoryOf machine) (view machine)) refl refl
+    own-short = view-fits machine (setMemory (memoryOf machine) (view machine)) refl
 
     own-leaves : hostLeaves (intern name) machine (memoryOf machine) ≡ machine
     unfolding hostLeaves withNames withPages memoryOf pagesOf numbersOf spareAfter
@@ -212,9 +222,9 @@ module _ (n w : ℕ) (k : smallOk n w ≡ true) (old x : List ℕ) (long : lengt
   pub small-hashed : (hash : ℕ) → hash ≡ smallHashOf n w → hash ≡ hashOf (take n x)
   small-hashed hash h = let fine = small-says n w k in h ∙ small-hash-is n w (fine .0) (fine .1) ∙ ap hashOf (sym small-bytes)
 
-module _ (s : State) (frames heap slots spare : List ℕ) (n w : ℕ) where
+module _ (s : State) (l : Lent) (n w : ℕ) where
   abbrev small-machine : Machine
-  small-machine = machineOf s (lentOf frames heap slots spare)
+  small-machine = machineOf s l
 
   -- a small name is a name
   as-name : (t : Option ℕ) (g : Given) → granted t (intern (smallName n w)) small-machine g ≡ granted t (internSmall n w) small-machine g
@@ -239,10 +249,10 @@ module _ (s : State) (frames heap slots spare : List ℕ) (n w : ℕ) where
 
     pub small-told : smallOk n w ≡ true → (hash : ℕ) → hash ≡ smallHashOf n w → (name : List ℕ) → name ≡ smallName n w
         → (p : Probe) (x : Called) → x ≡ hostCall (intern name) small-machine (known name (memoryOf small-machine) p)
-        → p ≡ probed s frames heap slots spare (smallName n w) hash
+        → p ≡ probed s l (smallName n w) hash
         → x ≡ perform (host (internSmall n w)) small-machine
     unfolding act hosted hostCall failing
     small-told k hash h name i p x e q =
         let fine = small-says n w k in
-        e ∙ rw (i, found-is s frames heap slots spare (smallName n w) hash (h ∙ small-hash-is n w (fine .0) (fine .1)) p q) (as-name _ _)
+        e ∙ rw (i, found-is s l (smallName n w) hash (h ∙ small-hash-is n w (fine .0) (fine .1)) p q) (as-name _ _)
         ∙ acted-is (host (internSmall n w)) small-machine (small-tests ∙ rw k refl)

@@ -20,9 +20,8 @@ use Rattle.gc.proofs.Soundness.{sound}
 use Rattle.vm.specs.declared.State.{State}
 use Rattle.program.specs.Image.{Test, test, failing}
 use Rattle.program.proofs.Tests.{failing-cons}
-use Rattle.vm.specs.Machine.{sizes}
-use Rattle.vm.specs.Machine.{heapOk, slotsOk, pagesBelong, namesBelong, nameTests, found}
-use Rattle.vm.specs.Told.{lentOf, holding}
+use Rattle.vm.specs.Machine.{Lent, lendNames, unlent, blank, heapOk, slotsOk, pagesBelong, namesBelong, nameTests, found}
+use Rattle.vm.specs.Told.{holding}
 use Rattle.names.specs.Interned.{Belong}
 use Rattle.vm.proofs.Buffers.{heap-low}
 
@@ -46,9 +45,9 @@ module _ (g : Gc) (t : StrTable) (heap slots spare : List ℕ) where
   abbrev names-ok : Bool
   names-ok = Heap.soundOf g (length heap) && Table.soundOf (g .base) (g .pushed) t slots
 
-module _ (rest : State) (frames : List ℕ) (g : Gc) (t : StrTable) (heap slots spare : List ℕ) where
+module _ (rest : State) (l : Lent) (g : Gc) (t : StrTable) (heap slots spare : List ℕ) where
   abbrev own : List Test
-  own = nameTests (found (holding rest g t) (lentOf frames heap slots spare))
+  own = nameTests (found (holding rest g t) (lendNames heap slots spare l))
 
   module _ {a b : Bool} (e : a ≡ heapOk (g .base) (length heap)) (f : b ≡ slotsOk (length slots) (length spare)) where
     pub tested-10 : not (a && b) ≡ true → some 10 ≡ failing own
@@ -67,11 +66,11 @@ module _ (rest : State) (frames : List ℕ) (g : Gc) (t : StrTable) (heap slots 
 
 -- the tests look at no other part of a state, so any will do
 pub belong : (g : Gc) (t : StrTable) (heap slots spare : List ℕ)
-    → ((rest : State) (frames : List ℕ) → none ≡ failing (own rest frames g t heap slots spare)) → Belong g t heap slots spare
+    → ((rest : State) (l : Lent) → none ≡ failing (own rest l g t heap slots spare)) → Belong g t heap slots spare
 unfolding namesBelong pagesBelong slotsOk Table.soundOf Table.slotsOk Table.countOk
 belong g t heap slots spare p =
     let first = failing-cons (test (sizes-ok g t heap slots spare) 10) _
-    (sym (p (record { regs = []; pc = 0; depth = 0; gc = g; strings = t }) [])) in
+    (sym (p (blank 0 unlent .state) unlent)) in
     let second = failing-cons (test (names-ok g t heap slots spare) 9) [] (first .1) in
     let sizes = both (heapOk (g .base) (length heap)) _ (first .0) in
     let lent = both (Table.slotCount (length slots)) _ (sizes .1) in

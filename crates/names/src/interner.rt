@@ -1,14 +1,12 @@
 // Interning: document 01, 'Interning: 9, 17, the value if found, 18, 2', after 10.
 ghost use mathlib.Core.Path.{_≡_};
-ghost use mathlib.Core.List.{List};
-ghost use Prim.Native.Nat.{ℕ};
 ghost use Rattle.string.specs.Hash.{hashOf};
 ghost use Rattle.gc.specs.Lent.{pagesOf, outcome, grantedIn, InHeap};
 ghost use Rattle.program.specs.Image.{failing};
 ghost use Rattle.vm.specs.declared.State.{State};
 ghost use Rattle.vm.specs.Names.{fresh, known};
-ghost use Rattle.vm.specs.Machine.{memoryOf, intern, internSmall, host, hostCall, smallOk, found, nameTests, perform};
-ghost use Rattle.vm.specs.Told.{lentOf, machineOf, holding, told};
+ghost use Rattle.vm.specs.Machine.{Lent, lendNames, memoryOf, intern, internSmall, host, hostCall, smallOk, found, nameTests, perform};
+ghost use Rattle.vm.specs.Told.{machineOf, holding, told};
 ghost use Rattle.names.specs.Interned.{nameBlock, Belong, testedOf, internedIn};
 use anomaly::Refusal;
 use gc::Alloc;
@@ -64,9 +62,9 @@ fn small_ok(len: usize, word: u64) -> bool
 
 // 10, then 9.
 fn check(gc: Gc, strings: StrTable, heap: &[u8], slots: &[u64], spare: &[u64]) -> Tested
-    ensures { λ r. ⌜ ((rest : State) (frames : List ℕ)
+    ensures { λ r. ⌜ ((rest : State) (l : Lent)
         → testedOf r
-        ≡ failing (nameTests (found (holding rest gc strings) (lentOf frames (now (heap .entry)) (now (slots .entry)) (now (spare .entry)))))) ⌝ }
+        ≡ failing (nameTests (found (holding rest gc strings) (lendNames (now (heap .entry)) (now (slots .entry)) (now (spare .entry)) l)))) ⌝ }
 {
     if !(lent::heap_ok(gc.base, heap.len()) & lent::slots_ok(slots.len(), spare.len())) {
         return Tested::Failed(Refusal::Size);
@@ -99,12 +97,12 @@ fn fresh(
     spare: &mut [u64],
 ) -> Interned
     requires { ⌜ Belong gc strings (now heap) (now slots) (now spare) × (hash ≡ hashOf (now s)) ⌝ }
-    ensures { λ r. ⌜ ((rest : State) (frames : List ℕ)
-        → told (internedIn rest r) (lentOf frames (now (heap .exit)) (now (slots .exit)) (now (spare .exit)))
+    ensures { λ r. ⌜ ((rest : State) (l : Lent)
+        → told (internedIn rest r) (lendNames (now (heap .exit)) (now (slots .exit)) (now (spare .exit)) l)
         ≡ hostCall (intern (now (s .entry)))
-        (machineOf (holding rest gc strings) (lentOf frames (now (heap .entry)) (now (slots .entry)) (now (spare .entry))))
+        (machineOf (holding rest gc strings) (lendNames (now (heap .entry)) (now (slots .entry)) (now (spare .entry)) l))
         (fresh (now (s .entry)) (memoryOf
-        (machineOf (holding rest gc strings) (lentOf frames (now (heap .entry)) (now (slots .entry)) (now (spare .entry))))))) ⌝ }
+        (machineOf (holding rest gc strings) (lendNames (now (heap .entry)) (now (slots .entry)) (now (spare .entry)) l))))) ⌝ }
 {
     if slots.len() < strings.room() {
         return refused(gc, strings, Refusal::TableFull);
@@ -133,12 +131,12 @@ fn known(
     spare: &mut [u64],
 ) -> Interned
     requires { ⌜ Belong gc strings (now heap) (now slots) (now spare) × (hash ≡ hashOf (now s)) ⌝ }
-    ensures { λ r. ⌜ ((rest : State) (frames : List ℕ)
-        → told (internedIn rest r) (lentOf frames (now (heap .exit)) (now (slots .exit)) (now (spare .exit)))
+    ensures { λ r. ⌜ ((rest : State) (l : Lent)
+        → told (internedIn rest r) (lendNames (now (heap .exit)) (now (slots .exit)) (now (spare .exit)) l)
         ≡ hostCall (intern (now (s .entry)))
-        (machineOf (holding rest gc strings) (lentOf frames (now (heap .entry)) (now (slots .entry)) (now (spare .entry))))
+        (machineOf (holding rest gc strings) (lendNames (now (heap .entry)) (now (slots .entry)) (now (spare .entry)) l))
         (known (now (s .entry)) (memoryOf
-        (machineOf (holding rest gc strings) (lentOf frames (now (heap .entry)) (now (slots .entry)) (now (spare .entry))))) found)) ⌝ }
+        (machineOf (holding rest gc strings) (lendNames (now (heap .entry)) (now (slots .entry)) (now (spare .entry)) l))) found)) ⌝ }
 {
     match found {
         Probe::Found(v) => Interned {
@@ -158,10 +156,10 @@ pub fn intern(
     slots: &mut [u64],
     spare: &mut [u64],
 ) -> Interned
-    ensures { λ r. ⌜ ((rest : State) (frames : List ℕ)
-        → told (internedIn rest r) (lentOf frames (now (heap .exit)) (now (slots .exit)) (now (spare .exit)))
+    ensures { λ r. ⌜ ((rest : State) (l : Lent)
+        → told (internedIn rest r) (lendNames (now (heap .exit)) (now (slots .exit)) (now (spare .exit)) l)
         ≡ perform (host (intern (now (s .entry))))
-        (machineOf (holding rest gc strings) (lentOf frames (now (heap .entry)) (now (slots .entry)) (now (spare .entry))))) ⌝ }
+        (machineOf (holding rest gc strings) (lendNames (now (heap .entry)) (now (slots .entry)) (now (spare .entry)) l))) ⌝ }
 {
     match check(gc, strings, heap, slots, spare) {
         Tested::Failed(why) => refused(gc, strings, why),
@@ -185,10 +183,10 @@ pub fn intern_small(
     slots: &mut [u64],
     spare: &mut [u64],
 ) -> Interned
-    ensures { λ r. ⌜ ((rest : State) (frames : List ℕ)
-        → told (internedIn rest r) (lentOf frames (now (heap .exit)) (now (slots .exit)) (now (spare .exit)))
+    ensures { λ r. ⌜ ((rest : State) (l : Lent)
+        → told (internedIn rest r) (lendNames (now (heap .exit)) (now (slots .exit)) (now (spare .exit)) l)
         ≡ perform (host (internSmall len word))
-        (machineOf (holding rest gc strings) (lentOf frames (now (heap .entry)) (now (slots .entry)) (now (spare .entry))))) ⌝ }
+        (machineOf (holding rest gc strings) (lendNames (now (heap .entry)) (now (slots .entry)) (now (spare .entry)) l))) ⌝ }
 {
     match check(gc, strings, heap, slots, spare) {
         Tested::Failed(why) => refused(gc, strings, why),

@@ -1,9 +1,7 @@
 // Interning over a state: the machine's two calls. `interner` has them over the numbers that they need.
 ghost use mathlib.Core.Path.{_≡_};
-ghost use mathlib.Core.List.{List};
-ghost use Prim.Native.Nat.{ℕ};
-ghost use Rattle.vm.specs.Machine.{intern, internSmall, host, perform};
-ghost use Rattle.vm.specs.Told.{lentOf, machineOf, told};
+ghost use Rattle.vm.specs.Machine.{Lent, lendNames, intern, internSmall, host, perform};
+ghost use Rattle.vm.specs.Told.{machineOf, told};
 ghost use Rattle.names.specs.Interned.{internedIn};
 
 pub mod interner;
@@ -31,10 +29,10 @@ pub fn intern(
     slots: &mut [u64],
     spare: &mut [u64],
 ) -> Called
-    ensures { λ r. ⌜ ((frames : List ℕ)
-        → told r (lentOf frames (now (heap .exit)) (now (slots .exit)) (now (spare .exit)))
+    ensures { λ r. ⌜ ((l : Lent)
+        → told r (lendNames (now (heap .exit)) (now (slots .exit)) (now (spare .exit)) l)
         ≡ perform (host (intern (now (s .entry))))
-        (machineOf state (lentOf frames (now (heap .entry)) (now (slots .entry)) (now (spare .entry))))) ⌝ }
+        (machineOf state (lendNames (now (heap .entry)) (now (slots .entry)) (now (spare .entry)) l))) ⌝ }
 {
     let i = interner::intern(state.gc, state.strings, s, heap, slots, spare);
     interned(state, i)
@@ -48,10 +46,10 @@ pub fn intern_small(
     slots: &mut [u64],
     spare: &mut [u64],
 ) -> Called
-    ensures { λ r. ⌜ ((frames : List ℕ)
-        → told r (lentOf frames (now (heap .exit)) (now (slots .exit)) (now (spare .exit)))
+    ensures { λ r. ⌜ ((l : Lent)
+        → told r (lendNames (now (heap .exit)) (now (slots .exit)) (now (spare .exit)) l)
         ≡ perform (host (internSmall len word))
-        (machineOf state (lentOf frames (now (heap .entry)) (now (slots .entry)) (now (spare .entry))))) ⌝ }
+        (machineOf state (lendNames (now (heap .entry)) (now (slots .entry)) (now (spare .entry)) l))) ⌝ }
 {
     let i = interner::intern_small(state.gc, state.strings, len, word, heap, slots, spare);
     interned(state, i)

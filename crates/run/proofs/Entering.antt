@@ -18,13 +18,13 @@ use Rattle.gc.proofs.Soundness as Soundness
 use Rattle.program.specs.Image.{Image, tablesOk, imageOk, imageTests, failing}
 use Rattle.vm.specs.declared.State.{State}
 use Rattle.run.specs.declared.instruction.Position.{Position}
-use Rattle.vm.specs.Core.{Core, setPc, setFrames}
+use Rattle.vm.specs.Core.{Core, setRegs, setPc, setFrames}
 use Rattle.vm.specs.Run.{Ran, go, root, entered, stored}
-use Rattle.vm.specs.Machine.{Lent, Machine, sizes, memoryOf, view, withPages, traced, withFrames, withRegs, laid, run, Called, ended, refused}
+use Rattle.vm.specs.Machine.{Lent, Machine, lendFrames, sizes, memoryOf, view, withPages, traced, withFrames, withRegs, laid, run, Called, ended, refused}
 use Rattle.vm.specs.Machine.{ran, idle, runs, runLeaves, runCall, act, framesOk, heapOk, framesBelong, pagesBelong, testsBy, tests, tried, perform}
-use Rattle.vm.specs.Told.{lentOf, machineOf}
+use Rattle.vm.specs.Told.{machineOf}
 use Rattle.vm.specs.Loaded.{Loaded}
-use Rattle.run.specs.Loop.{Going, Finished, finishes, finished, storedPc}
+use Rattle.run.specs.Loop.{positionOf, Fitting, Going, Finished, finishes, finished, storedPc}
 use Rattle.program.proofs.Asks.{difference}
 use Rattle.vm.proofs.Fits.{view-fits}
 use Rattle.program.proofs.Tests.{failing-here, failing-later}
@@ -39,87 +39,64 @@ take-first : (d : ℕ) (xs : List ℕ) (v : ℕ) → take d (set xs 0 v) ≡ set
 take-first zero xs v = refl
 take-first (suc d) xs v = take-set-lt (suc d) xs 0 v (omega arith)
 
--- an end of the list is 0, 5 or an anomaly's
-pub listed-known : (b e n : ℕ) → Listed b e n → ((eqb e 0 || eqb e 5) || isAnomaly e) ≡ true
-listed-known b e n h = by (eqb e 0) (eqb e 5) refl refl
-  where
-    by : (p q : Bool) → eqb e 0 ≡ p → eqb e 5 ≡ q → ((p || q) || isAnomaly e) ≡ true
-    by true q x y = refl
-    by false true x y = refl
-    by false false x y = low (leb e 4) refl
-      where
-        low : (t : Bool) → leb e 4 ≡ t → isAnomaly e ≡ true
-        low true z = let k = eqb-false e 0 x in rw (le-leb 1 e (omega arith), z) refl
-        low false z =
-            let k = eqb-false e 5 y in
-            let above = leb-false e 4 z in
-            let most = h .number in
-            rw (z, le-leb 6 e (omega arith), le-leb e 8 most, le-leb 1 e (omega arith)) refl
-
 -- ---- the tests: of the image, then of the state
 
-module _ (im : Image) (b : ℕ) (s : State) (frames heap : List ℕ) where
-  -- a run is lent no slots
-  abbrev pub lent : List ℕ → List ℕ → Lent
-  lent slots spare = lentOf frames heap slots spare
-
+module _ (im : Image) (b : ℕ) (s : State) (l : Lent) where
   abbrev pub sizes-fine : Bool
-  sizes-fine = framesOk (length frames) && heapOk (s .gc .base) (length heap)
+  sizes-fine = framesOk (length (l .frames)) && heapOk (s .gc .base) (length (l .heap))
 
-  pub any-slots : failing (tests (run im b) s (lent [] [])) ≡ none → (slots spare : List ℕ) → failing (tests (run im b) s (lent slots spare)) ≡ none
-  unfolding tests testsBy framesBelong pagesBelong
-  any-slots f slots spare = f
+  abbrev machine : Machine
+  machine = machineOf s l
 
-  module _ (slots spare : List ℕ) where
-    abbrev machine : Machine
-    machine = machineOf s (lent slots spare)
+  pub run-refused : (k r : ℕ) → failing (imageTests sizes-fine im) ≡ some k → r ≡ k
+      → record { answer = refused r; machine = machine } ≡ perform (run im b) machine
+  unfolding perform tests testsBy tried
+  run-refused k r f e = rw (failing-here (imageTests sizes-fine im) _ k f, tried, e) refl
 
-    pub run-refused : (k r : ℕ) → failing (imageTests sizes-fine im) ≡ some k → r ≡ k
-        → record { answer = refused r; machine = machine } ≡ perform (run im b) machine
-    unfolding perform tests testsBy tried
-    run-refused k r f e = rw (failing-here (imageTests sizes-fine im) _ k f, tried, e) refl
+  run-9 : failing (imageTests sizes-fine im) ≡ none → (framesBelong (length (im .code)) s l && pagesBelong s l) ≡ false
+      → record { answer = refused 9; machine = machine } ≡ perform (run im b) machine
+  unfolding perform tests testsBy tried failing
+  run-9 f e = rw (failing-later (imageTests sizes-fine im) _ f, e, failing, tried) refl
 
-    run-9 : failing (imageTests sizes-fine im) ≡ none
-        → (framesBelong (length (im .code)) s (lent slots spare) && pagesBelong s (lent slots spare)) ≡ false
-        → record { answer = refused 9; machine = machine } ≡ perform (run im b) machine
-    unfolding perform tests testsBy tried failing
-    run-9 f e = rw (failing-later (imageTests sizes-fine im) _ f, e, failing, tried) refl
-
-    pub run-passed : failing (tests (run im b) s (lent slots spare)) ≡ none → runCall im b machine ≡ perform (run im b) machine
-    unfolding perform tried act
-    run-passed f = rw (f, tried) refl
+  pub run-passed : failing (tests (run im b) s l) ≡ none → runCall im b machine ≡ perform (run im b) machine
+  unfolding perform tried act
+  run-passed f = rw (f, tried) refl
 
   module _ (f : failing (imageTests sizes-fine im) ≡ none) {p q : Bool}
-      (frames-say : (u : State) (l : Lent) → u .depth ≡ s .depth → l .frames ≡ frames → p ≡ framesBelong (length (im .code)) u l)
-      (pages-say : q ≡ Heap.soundOf (s .gc) (length heap)) where
-    pub run-foreign : (p && q) ≡ false → (slots spare : List ℕ)
-        → record { answer = refused 9; machine = machineOf s (lent slots spare) } ≡ perform (run im b) (machineOf s (lent slots spare))
+      (frames-say : (u : State) (k : Lent) → u .depth ≡ s .depth → k .frames ≡ l .frames → p ≡ framesBelong (length (im .code)) u k)
+      (pages-say : q ≡ Heap.soundOf (s .gc) (length (l .heap))) where
+    pub run-foreign : (p && q) ≡ false → record { answer = refused 9; machine = machine } ≡ perform (run im b) machine
     unfolding pagesBelong
-    run-foreign e slots spare = run-9 slots spare f (rw (← (frames-say s (lent slots spare) refl refl), ← pages-say) e)
+    run-foreign e = run-9 f (rw (← (frames-say s l refl refl), ← pages-say) e)
 
-    pub run-fine : (p && q) ≡ true → failing (tests (run im b) s (lent [] [])) ≡ none
+    pub run-fine : (p && q) ≡ true → failing (tests (run im b) s l) ≡ none
     unfolding tests testsBy pagesBelong failing
-    run-fine e = failing-later (imageTests sizes-fine im) _ f ∙ rw (← (frames-say s (lent [] []) refl refl), ← pages-say, e, failing) refl
+    run-fine e = failing-later (imageTests sizes-fine im) _ f ∙ rw (← (frames-say s l refl refl), ← pages-say, e, failing) refl
 
 -- ---- after the tests
 
-module _ (im : Image) (b : ℕ) (s : State) (frames heap slots spare : List ℕ)
-    (passed : failing (tests (run im b) s (lentOf frames heap slots spare)) ≡ none) where
+module _ (im : Image) (b : ℕ) (s : State) (l : Lent) (passed : failing (tests (run im b) s l) ≡ none) where
   abbrev n : ℕ
   n = length (im .code)
 
   abbrev at : Position
-  at = record { pc = s .pc; depth = s .depth; gc = s .gc }
+  at = positionOf s
 
   abbrev m : Machine
-  m = machineOf s (lentOf frames heap slots spare)
+  m = machineOf s l
+
+  abbrev frames : List ℕ
+  frames = l .frames
+
+  abbrev heap : List ℕ
+  heap = l .heap
 
   -- with frame 0 written
   abbrev opened : List ℕ
   opened = set frames 0 (root n)
 
   abbrev m₁ : Machine
-  m₁ = machineOf s (lentOf opened heap slots spare)
+  m₁ = machineOf s (lendFrames opened l)
 
   lent-fine : (framesOk (length frames) ≡ true) × (heapOk (s .gc .base) (length heap) ≡ true)
   lent-fine = both (framesOk (length frames)) _ (all-passed im b m passed .lent)
@@ -151,19 +128,26 @@ module _ (im : Image) (b : ℕ) (s : State) (frames heap slots spare : List ℕ)
   unfolding sizes
   sizes-opened = rw length-set refl
 
-  laid-opened : (trail : List (List ℕ)) (c : Core) → laid ((root n ∷ []) ∷ trail) c m ≡ laid trail c m₁
-  unfolding laid withRegs withFrames withPages traced
+  -- the core whose frames are frame 0 alone, as the way of a run begins
+  abbrev rooted : Core
+  rooted = setFrames (root n ∷ []) (view m)
+
+  laid-opened : (trail : List Core) (c : Core) → laid (rooted ∷ trail) c m ≡ laid trail c m₁
+  unfolding laid withRegs withFrames withPages traced setFrames
   laid-opened trail c = rw over-first refl
 
+  fitting-opened : Fitting at (lendFrames opened l)
+  fitting-opened = record { deep = deep-opened; sound = sound }
+
   unchanged : laid [] (view m₁) m₁ ≡ m₁
-  unfolding view
-  unchanged = laid-same (s .strings) at (s .regs) opened heap slots spare deep-opened sound (s .regs) (s .pc)
+  unfolding view setRegs setPc
+  unchanged = laid-same s at (s .regs) (lendFrames opened l) fitting-opened (s .regs) (s .pc)
 
   -- ---- nothing to run
 
   as-it-was : laid [] (view m) m ≡ m
-  unfolding view
-  as-it-was = laid-same (s .strings) at (s .regs) frames heap slots spare deep sound (s .regs) (s .pc)
+  unfolding view setRegs setPc
+  as-it-was = laid-same s at (s .regs) l (record { deep = deep; sound = sound }) (s .regs) (s .pc)
 
   abbrev called : ℕ → Called
   called k = record { answer = runs (sizes (m .lent)) im b k (view m) .answer; machine = runLeaves m (runs (sizes (m .lent)) im b k (view m)) }
@@ -176,7 +160,7 @@ module _ (im : Image) (b : ℕ) (s : State) (frames heap slots spare : List ℕ)
       by zero q = rw as-it-was refl
       by (suc k) q = absurd (omega arith)
 
-  frame-alone : laid ((root n ∷ []) ∷ []) (entered n (view m)) m ≡ m₁
+  frame-alone : laid (rooted ∷ []) (entered n (view m)) m ≡ m₁
   frame-alone = laid-opened [] (entered n (view m)) ∙ ap (λ (c : Core). laid [] c m₁) (sym view-opened) ∙ unchanged
 
   beyond : (k : ℕ) → k ≤ s .pc → ltb (view m .pc) k ≡ false
@@ -185,8 +169,8 @@ module _ (im : Image) (b : ℕ) (s : State) (frames heap slots spare : List ℕ)
 
   idles : _≡_ {A = Called} (record { answer = ended 0 (s .pc) 0; machine = m₁ })
       (record {
-        answer = ran n (view m .pc) (idle (entered n (view m))) .answer;
-        machine = runLeaves m (ran n (view m .pc) (idle (entered n (view m))));
+        answer = ran n (view m) (idle (entered n (view m))) .answer;
+        machine = runLeaves m (ran n (view m) (idle (entered n (view m))));
       })
   unfolding runLeaves ran idle stored
   idles = rw frame-alone (unfold entered setFrames view in refl)
@@ -208,14 +192,14 @@ module _ (im : Image) (b : ℕ) (s : State) (frames heap slots spare : List ℕ)
     machine = withRegs (x .machine .state .regs) (storedPc (x .ending) (s .pc) (x .machine .state .pc)) (x .machine);
   }
 
-  laid-stored : (t : Bool) (trail : List (List ℕ)) (c : Core)
+  laid-stored : (t : Bool) (trail : List Core) (c : Core)
       → laid trail (elim t [ true ↦ c | false ↦ setPc (s .pc) c ]) m₁ ≡ withRegs (c .regs) (cond t (c .pc) (s .pc)) (laid trail c m₁)
   unfolding laid withRegs withFrames withPages setPc
   laid-stored true trail c = refl
   laid-stored false trail c = refl
 
-  settles : (r : Ran) → settled (finishes 0 m₁ r) ≡ record { answer = ran n (s .pc) r .answer; machine = runLeaves m (ran n (s .pc) r) }
-  unfolding finishes ran runLeaves stored
+  settles : (r : Ran) → settled (finishes 0 m₁ r) ≡ record { answer = ran n (view m) r .answer; machine = runLeaves m (ran n (view m) r) }
+  unfolding finishes ran runLeaves stored view
   settles r = rw (
     laid-opened (r .trail) (stored (r .ending) (s .pc) (r .core)),
     laid-stored (eqb (r .ending) 0 || eqb (r .ending) 5) (r .trail) (r .core),
@@ -261,25 +245,25 @@ module _ (im : Image) (b : ℕ) (s : State) (frames heap slots spare : List ℕ)
       by zero q = absurd (omega arith)
       by (suc k) q = rw (← q) at (from-inside im b m passed k q (omega arith))
 
-  inside : s .pc < n → Going n at opened heap
+  inside : s .pc < n → Going n at (lendFrames opened l)
   unfolding entered setFrames view
   inside h =
       let i = inside-opened h in
-      record { here = h; returns = rw (take-first (s .depth) frames (root n)) (i .returns); deep = deep-opened; sound = sound }
+      record { here = h; returns = rw (take-first (s .depth) frames (root n)) (i .returns); fitting = fitting-opened }
 
   listed : s .pc < n → (x : Finished) → x ≡ finished im b 0 m₁ → ((eqb (x .ending) 0 || eqb (x .ending) 5) || isAnomaly (x .ending)) ≡ true
   unfolding finished finishes
   listed h x e =
       let c = entered n (view m) in
-      let fit = rw view-opened at (view-fits m₁ (view m₁) refl refl) in
+      let fit = rw view-opened at (view-fits m₁ (view m₁) refl) in
       let found = go-listed (sizes (m₁ .lent)) im (checks im b m passed (omega arith)) b c fit (inside-opened h) in
-      rw (e, view-opened) (listed-known b _ _ found)
+      rw (e, view-opened) (found .number)
 
   -- ---- the same, of what the code has written to frame 0
 
   module _ {r : ℕ} (written : r ≡ root n) where
     abbrev entry : Machine
-    entry = machineOf s (lentOf (set frames 0 r) heap slots spare)
+    entry = machineOf s (lendFrames (set frames 0 r) l)
 
     pub run-past : 0 < n → n ≤ s .pc → record { answer = ended 0 (s .pc) 0; machine = entry } ≡ runCall im b m
     run-past = rw written past
@@ -287,7 +271,7 @@ module _ (im : Image) (b : ℕ) (s : State) (frames heap slots spare : List ℕ)
     pub run-goes : s .pc < n → (x : Finished) → x ≡ finished im b 0 entry → settled x ≡ runCall im b m
     run-goes = rw written goes
 
-    pub going : s .pc < n → Going n at (set frames 0 r) heap
+    pub going : s .pc < n → Going n at (lendFrames (set frames 0 r) l)
     going = rw written inside
 
     pub run-listed : s .pc < n → (x : Finished) → x ≡ finished im b 0 entry

@@ -11,7 +11,6 @@ use lib.Dec.{eqb}
 use borrow.Author.Tests.{ne-eqb, lt-ltb}
 use Rattle.memory.proofs.Over.{length-over, take-over, over-over}
 use Rattle.anomaly.specs.Table.{isAnomaly}
-use Rattle.string.specs.declared.table.StrTable.{StrTable}
 use Rattle.gc.specs.Lent.{pagesOf, numbersOf, InHeap}
 use Rattle.gc.proofs.Blocks.{pushed-is, pages-of-over}
 use Rattle.op.specs.Decode.{decodeOf}
@@ -19,13 +18,14 @@ use Rattle.program.specs.declared.Effect.{Effect}
 use Rattle.program.specs.Image.{Image}
 use Rattle.program.specs.Effect.{wordEffect}
 use Rattle.run.specs.declared.instruction.Position.{Position}
-use Rattle.vm.specs.Core.{Core, used, _⊑_}
-use Rattle.vm.specs.Run.{Step, next, halted, stop, fetched, step, Ran, after, go}
-use Rattle.vm.specs.Machine.{Lent, Machine, sizes, memoryOf, view, withPages, traced, withFrames, withRegs, laid}
-use Rattle.vm.specs.Told.{lentOf}
+use mathlib.Core.Option.{none}
+use Rattle.vm.specs.declared.State.{State}
+use Rattle.vm.specs.Core.{Core, used, short, _⊑_, setRegs, setPc}
+use Rattle.vm.specs.Run.{Step, next, halted, stop, asked, fetched, step, Ran, after, go}
+use Rattle.vm.specs.Machine.{Lent, Machine, sizes, unlent, memoryOf, view, withPages, traced, withFrames, withRegs, laid, blank}
 use Rattle.vm.specs.Loaded.{Loaded, Writable}
-use Rattle.run.specs.Loop.{machineAt, Going, goes, halts, stops, Turned, turned, turn, Finished, finishes, finished}
-use Rattle.vm.proofs.Fits.{fits-of, view-fits}
+use Rattle.run.specs.Loop.{positionOf, machineAt, Going, goes, halts, stops, Turned, turned, turn, Finished, finishes, finished}
+use Rattle.vm.proofs.Fits.{fits-of, view-within, view-fits}
 use Rattle.vm.proofs.Upward.{go-next, go-halted, go-stop}
 use Rattle.vm.proofs.Kept.{Kept, GoodStep, step-good}
 use Rattle.vm.proofs.Grows.{Ends, GrowsStep, step-grows, go-grows}
@@ -39,7 +39,7 @@ anomaly-left e n h = rw (ne-eqb e 0 (n .0 .1), ne-eqb e 5 (n .1)) at h
 -- ---- a core laid back, as the next machine
 
 abbrev going-in : ℕ → Machine → Type 0
-going-in n m = Going n (record { pc = m .state .pc; depth = m .state .depth; gc = m .state .gc }) (m .lent .frames) (m .lent .heap)
+going-in n m = Going n (positionOf (m .state)) (m .lent)
 
 module _ (m : Machine) (d : Core) (fit : used d ⊑ sizes (m .lent)) (kept : Kept (view m .memory) (d .memory)) where
   frames-fit : length (d .frames) ≤ length (m .lent .frames)
@@ -74,8 +74,10 @@ module _ (m : Machine) (d : Core) (fit : used d ⊑ sizes (m .lent)) (kept : Kep
       record {
         here = i .here;
         returns = rw (take-over (d .frames) (m .lent .frames) frames) (i .returns);
-        deep = rw length-over frames;
-        sound = record { low = rw (length-over, base) low; in-heap = rw length-over heap; in-pages = e };
+        fitting = record {
+          deep = rw length-over frames;
+          sound = record { low = rw (length-over, base) low; in-heap = rw length-over heap; in-pages = e };
+        };
       }
 
   -- what comes after d, over the machine that d is laid on
@@ -95,20 +97,19 @@ module _ (m : Machine) (d : Core) (fit : used d ⊑ sizes (m .lent)) (kept : Kep
 
 -- ---- the ways of a turn
 
-module _ (t : StrTable) (im : Image) (at : Position) (regs frames heap slots spare : List ℕ) (ok : Loaded im)
-    (g : Going (length (im .code)) at frames heap) where
-  abbrev l : Lent
-  l = lentOf frames heap slots spare
-
+module _ (s : State) (im : Image) (at : Position) (regs : List ℕ) (l : Lent) (ok : Loaded im) (g : Going (length (im .code)) at l) where
   abbrev m : Machine
-  m = machineAt t at regs l
+  m = machineAt s at regs l
 
   -- what the word at the pc asks for
   abbrev here : Effect
   here = wordEffect im regs (decodeOf (getD (im .code) (at .pc) 0))
 
+  own : short (sizes l) (used (view m)) ≡ none
+  own = view-fits m (view m) refl
+
   fit : used (view m) ⊑ sizes l
-  fit = fits-of (sizes l) (used (view m)) (view-fits m (view m) refl refl)
+  fit = view-within m
 
   inside : Inside (length (im .code)) (view m)
   unfolding view
@@ -116,15 +117,15 @@ module _ (t : StrTable) (im : Image) (at : Position) (regs frames heap slots spa
 
   ends : Ends (view m .memory .pages)
   unfolding view memoryOf pagesOf
-  ends = rw (pushed-is (at .gc) heap (g .sound)) (g .sound .in-pages)
+  ends = rw (pushed-is (at .gc) (l .heap) (g .fitting .sound)) (g .fitting .sound .in-pages)
 
   turn-is : turn here m ≡ turned m (step (sizes l) im (view m))
-  unfolding turn step fetched view
+  unfolding turn step asked fetched view
   turn-is = rw (lt-ltb (at .pc) (length (im .code)) (g .here)) refl
 
   as-it-was : laid [] (view m) m ≡ m
-  unfolding view
-  as-it-was = laid-same t at regs frames heap slots spare (g .deep) (g .sound) regs (at .pc)
+  unfolding view setRegs setPc
+  as-it-was = laid-same s at regs l (g .fitting) regs (at .pc)
 
   -- the loop goes on with this machine
   pub record On (b n : ℕ) (m′ : Machine) : Type 0 where
@@ -141,14 +142,14 @@ module _ (t : StrTable) (im : Image) (at : Position) (regs frames heap slots spa
       rw is
       (record {
         left = finished-laid m d fits (good .0) im b n p (grows .ends);
-        going = going-laid m d fits (good .0) (length (im .code)) o (grows .ends) (g .sound);
+        going = going-laid m d fits (good .0) (length (im .code)) o (grows .ends) (g .fitting .sound);
       })
   on-by b n m′ halted p good o grows e = let z : _≡_ {A = ℕ} 0 1 = cc (ap (λ (z : Turned). z .how) e) in absurd (omega arith)
-  on-by b n m′ (stop k) p good o grows e = let z : _≡_ {A = ℕ} 0 1 = cc (ap (λ (z : Turned). z .how) e) in absurd (omega arith)
+  on-by b n m′ (stop k d) p good o grows e = let z : _≡_ {A = ℕ} 0 1 = cc (ap (λ (z : Turned). z .how) e) in absurd (omega arith)
 
   pub to-next : (b n : ℕ) (m′ : Machine) → record { how = goes; machine = m′ } ≡ turn here m → On b n m′
   to-next b n m′ e =
-      on-by b n m′ (step (sizes l) im (view m)) refl (step-good (sizes l) im (view m))
+      on-by b n m′ (step (sizes l) im (view m)) refl (step-good (sizes l) im (view m) own)
       (step-ok (sizes l) im (view m) (ok .checks) fit inside) (step-grows (sizes l) im (view m) ends) (e ∙ turn-is)
 
   halt-by : (b n : ℕ) (m′ : Machine) (x : Step) → step (sizes l) im (view m) ≡ x → record { how = halts; machine = m′ } ≡ turned m x
@@ -156,7 +157,7 @@ module _ (t : StrTable) (im : Image) (at : Position) (regs frames heap slots spa
   unfolding turned finished finishes
   halt-by b n m′ (next d) p e = let z : _≡_ {A = ℕ} 0 1 = cc (ap (λ (z : Turned). z .how) e) in absurd (omega arith)
   halt-by b n m′ halted p e = rw (go-halted (sizes l) im b (view m) p, as-it-was, ap (λ (z : Turned). z .machine) e) refl
-  halt-by b n m′ (stop k) p e = let z : _≡_ {A = ℕ} 0 1 = cc (ap (λ (z : Turned). z .how) e) in absurd (omega arith)
+  halt-by b n m′ (stop k d) p e = let z : _≡_ {A = ℕ} 0 1 = cc (ap (λ (z : Turned). z .how) e) in absurd (omega arith)
 
   pub to-halt : (b n : ℕ) (m′ : Machine) → record { how = halts; machine = m′ } ≡ turn here m
       → record { ending = 0; steps = n + 1; machine = m′ } ≡ finished im (suc b) n m
@@ -167,9 +168,9 @@ module _ (t : StrTable) (im : Image) (at : Position) (regs frames heap slots spa
   unfolding turned finished finishes
   stop-by b n k m′ (next d) p e = let z : _≡_ {A = ℕ} 0 1 = cc (ap (λ (z : Turned). z .how) e) in absurd (omega arith)
   stop-by b n k m′ halted p e = let z : _≡_ {A = ℕ} 0 1 = cc (ap (λ (z : Turned). z .how) e) in absurd (omega arith)
-  stop-by b n k m′ (stop j) p e =
+  stop-by b n k m′ (stop j d) p e =
       let number : k ≡ j = cc (ap (λ (z : Turned). z .how) e) in
-      rw (go-stop (sizes l) im b (view m) j p, as-it-was, ap (λ (z : Turned). z .machine) e, number, add-zero n) refl
+      rw (go-stop (sizes l) im b (view m) d j p, ap (λ (z : Turned). z .machine) e, number, add-zero n) refl
 
   pub to-stop : (b n k : ℕ) (m′ : Machine) → record { how = stops k; machine = m′ } ≡ turn here m
       → record { ending = k; steps = n; machine = m′ } ≡ finished im (suc b) n m
@@ -184,83 +185,73 @@ module _ (t : StrTable) (im : Image) (at : Position) (regs frames heap slots spa
 
 -- ---- the loop's invariant
 
--- where the loop has come to: what is left of the run from here is what the whole run was
-pub record Running (im : Image) (budget : ℕ) (regs₀ frames₀ heap₀ : List ℕ) (at₀ : Position) (regs frames heap : List ℕ) (at : Position)
-    (steps : ℕ) : Type 0 where
-  pub left : (t : StrTable) (slots spare : List ℕ)
-      → finished im (budget - steps) steps (machineAt t at regs (lentOf frames heap slots spare))
-      ≡ finished im budget 0 (machineAt t at₀ regs₀ (lentOf frames₀ heap₀ slots spare))
-  pub going : Going (length (im .code)) at frames heap
+-- where the loop has come to: what is left of the run from here is what the whole run was. `lent` puts what the loop is lent into any buffers
+pub record Running (im : Image) (budget : ℕ) (regs₀ : List ℕ) (lent₀ : Lent → Lent) (at₀ : Position) (regs : List ℕ) (lent : Lent → Lent)
+    (at : Position) (steps : ℕ) : Type 0 where
+  pub left : (s : State) (l : Lent)
+      → finished im (budget - steps) steps (machineAt s at regs (lent l)) ≡ finished im budget 0 (machineAt s at₀ regs₀ (lent₀ l))
+  pub here : at .pc < length (im .code)
+  pub going : (l : Lent) → Going (length (im .code)) at (lent l)
   pub within : steps ≤ budget
-  pub as-deep : length frames ≡ length frames₀
-  pub as-long : length heap ≡ length heap₀
 
-pub running-first : (im : Image) (budget : ℕ) (regs frames heap : List ℕ) (at : Position) → Going (length (im .code)) at frames heap
-    → Running im budget regs frames heap at regs frames heap at 0
-running-first im budget regs frames heap at g = record {
-  left = λ t slots spare. ap (λ (b : ℕ). finished im b 0 (machineAt t at regs (lentOf frames heap slots spare))) (sub-zero budget);
+pub running-first : (im : Image) (budget : ℕ) (regs : List ℕ) (lent : Lent → Lent) (at : Position)
+    → ((l : Lent) → Going (length (im .code)) at (lent l)) → Running im budget regs lent at regs lent at 0
+running-first im budget regs lent at g = record {
+  left = λ s l. ap (λ (b : ℕ). finished im b 0 (machineAt s at regs (lent l))) (sub-zero budget);
+  here = g unlent .here;
   going = g;
   within = omega arith;
-  as-deep = refl;
-  as-long = refl;
 }
 
-module _ (im : Image) (ok : Loaded im) (budget : ℕ) (regs₀ frames₀ heap₀ : List ℕ) (at₀ : Position) (regs frames heap : List ℕ)
+module _ (im : Image) (ok : Loaded im) (budget : ℕ) (regs₀ : List ℕ) (lent₀ : Lent → Lent) (at₀ : Position) (regs : List ℕ) (lent : Lent → Lent)
     (at : Position) (steps : ℕ)
-    (r : Running im budget regs₀ frames₀ heap₀ at₀ regs frames heap at steps)
+    (r : Running im budget regs₀ lent₀ at₀ regs lent at steps)
   where
-    abbrev now-at : StrTable → List ℕ → List ℕ → Machine
-    now-at t slots spare = machineAt t at regs (lentOf frames heap slots spare)
+    abbrev now-at : State → Lent → Machine
+    now-at s l = machineAt s at regs (lent l)
 
-    abbrev whole : StrTable → List ℕ → List ℕ → Finished
-    whole t slots spare = finished im budget 0 (machineAt t at₀ regs₀ (lentOf frames₀ heap₀ slots spare))
+    abbrev whole : State → Lent → Finished
+    whole s l = finished im budget 0 (machineAt s at₀ regs₀ (lent₀ l))
 
     abbrev asks : Effect
     asks = wordEffect im regs (decodeOf (getD (im .code) (at .pc) 0))
 
     module _ (more : steps < budget) where
-      left-more : (t : StrTable) (slots spare : List ℕ) → finished im (suc (budget - suc steps)) steps (now-at t slots spare) ≡ whole t slots spare
-      left-more t slots spare =
+      left-more : (s : State) (l : Lent) → finished im (suc (budget - suc steps)) steps (now-at s l) ≡ whole s l
+      left-more s l =
           let one : suc (budget - suc steps) ≡ budget - steps = omega arith in
-          rw one (r .left t slots spare)
+          rw one (r .left s l)
 
-      pub running-next : (to : Position) (regs′ frames′ heap′ : List ℕ)
-          → ((t : StrTable) (slots spare : List ℕ)
-          → record { how = goes; machine = machineAt t to regs′ (lentOf frames′ heap′ slots spare) } ≡ turn asks (now-at t slots spare))
-          → length frames′ ≡ length frames → length heap′ ≡ length heap → Running im budget regs₀ frames₀ heap₀ at₀ regs′ frames′ heap′ to (steps + 1)
-      running-next to regs′ frames′ heap′ e deep long =
+      pub running-next : (to : Position) (regs′ : List ℕ) (lent′ : Lent → Lent)
+          → ((s : State) (l : Lent) → record { how = goes; machine = machineAt s to regs′ (lent′ l) } ≡ turn asks (now-at s l))
+          → Running im budget regs₀ lent₀ at₀ regs′ lent′ to (steps + 1)
+      running-next to regs′ lent′ e =
           record {
-            left = λ t slots spare. rw (add-one steps) (sym (on t slots spare .left) ∙ left-more t slots spare);
-            going = on (record { active = 0; len = 0 }) [] [] .going;
+            left = λ s l. rw (add-one steps) (sym (on s l .left) ∙ left-more s l);
+            here = on (blank 0 unlent .state) unlent .going .here;
+            going = λ l. on (blank 0 l .state) l .going;
             within = omega arith;
-            as-deep = deep ∙ r .as-deep;
-            as-long = long ∙ r .as-long;
           }
         where
-          on : (t : StrTable) (slots spare : List ℕ)
-              → On t im at regs frames heap slots spare ok (r .going) (budget - suc steps) steps
-              (machineAt t to regs′ (lentOf frames′ heap′ slots spare))
-          on t slots spare = to-next t im at regs frames heap slots spare ok (r .going) (budget - suc steps) steps _ (e t slots spare)
+          on : (s : State) (l : Lent) → On s im at regs (lent l) ok (r .going l) (budget - suc steps) steps (machineAt s to regs′ (lent′ l))
+          on s l = to-next s im at regs (lent l) ok (r .going l) (budget - suc steps) steps _ (e s l)
 
-      pub halted-here : (t : StrTable) (slots spare : List ℕ) (m′ : Machine) → record { how = halts; machine = m′ } ≡ turn asks (now-at t slots spare)
-          → record { ending = 0; steps = steps + 1; machine = m′ } ≡ whole t slots spare
-      halted-here t slots spare m′ e = to-halt t im at regs frames heap slots spare ok (r .going) (budget - suc steps) steps m′ e
-          ∙ left-more t slots spare
+      module _ (s : State) (l : Lent) where
+        pub halted-here : (m′ : Machine) → record { how = halts; machine = m′ } ≡ turn asks (now-at s l)
+            → record { ending = 0; steps = steps + 1; machine = m′ } ≡ whole s l
+        halted-here m′ e = to-halt s im at regs (lent l) ok (r .going l) (budget - suc steps) steps m′ e ∙ left-more s l
 
-      pub stopped-here : (t : StrTable) (slots spare : List ℕ) (k : ℕ) (m′ : Machine)
-          → record { how = stops k; machine = m′ } ≡ turn asks (now-at t slots spare)
-          → record { ending = k; steps = steps; machine = m′ } ≡ whole t slots spare
-      stopped-here t slots spare k m′ e = to-stop t im at regs frames heap slots spare ok (r .going) (budget - suc steps) steps k m′ e
-          ∙ left-more t slots spare
+        pub stopped-here : (k : ℕ) (m′ : Machine) → record { how = stops k; machine = m′ } ≡ turn asks (now-at s l)
+            → record { ending = k; steps = steps; machine = m′ } ≡ whole s l
+        stopped-here k m′ e = to-stop s im at regs (lent l) ok (r .going l) (budget - suc steps) steps k m′ e ∙ left-more s l
 
-    pub spent-here : budget ≤ steps → (t : StrTable) (slots spare : List ℕ)
-        → record { ending = 5; steps = steps; machine = now-at t slots spare } ≡ whole t slots spare
-    spent-here h t slots spare =
+    pub spent-here : budget ≤ steps → (s : State) (l : Lent) → record { ending = 5; steps = steps; machine = now-at s l } ≡ whole s l
+    spent-here h s l =
         let none-left : budget - steps ≡ 0 = let w = r .within in omega arith in
-        to-budget t im at regs frames heap slots spare ok (r .going) steps ∙ (rw none-left at (r .left t slots spare))
+        to-budget s im at regs (lent l) ok (r .going l) steps ∙ (rw none-left at (r .left s l))
 
     pub asks-writable : Writable asks
-    asks-writable = here-writable (record { active = 0; len = 0 }) im at regs frames heap [] [] ok (r .going)
+    asks-writable = here-writable (blank 0 unlent .state) im at regs (lent unlent) ok (r .going unlent)
 
     pub next-fits : at .pc + 1 < 2 ^ 64
-    next-fits = let h = r .going .here in let s = ok .size in omega arith
+    next-fits = let h = r .here in let s = ok .size in omega arith

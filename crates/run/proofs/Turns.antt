@@ -16,7 +16,6 @@ use Rattle.memory.proofs.Over.{over-take, over-more, over-write, length-write}
 use Rattle.memory.proofs.Bytes.{length-bytesOf}
 use Rattle.memory.proofs.Tests.{both}
 use Rattle.anomaly.proofs.Numbers.{either}
-use Rattle.string.specs.declared.table.StrTable.{StrTable}
 use Rattle.string.specs.Payload.{reaches}
 use Rattle.gc.specs.declared.Gc.{Gc}
 use Rattle.gc.specs.declared.Alloc.{Alloc}
@@ -25,19 +24,17 @@ use Rattle.gc.specs.Pages.{Pages, Block, allocated}
 use Rattle.gc.specs.Lent.{pageSize, pagesOf, numbersOf, fits, outcome, allocOf, InHeap}
 use Rattle.gc.proofs.Blocks.{pushed-is}
 use Rattle.program.specs.declared.Effect.the-variants as effect
+use Rattle.program.specs.Image.{test, failing}
 use Rattle.run.specs.declared.instruction.Position.{Position}
 use Rattle.run.specs.declared.instruction.Place.{Place}
-use Rattle.vm.specs.Core.{Core, used, lacking, short, setReg, setPc, setFrames, setMemory, setPages, setBytes}
-use Rattle.vm.specs.Run.{next, provided, forward, addressed, loaded, stored8, returned, blockTo, apply, unless, limited}
-use Rattle.vm.specs.Machine.{Lent, Machine, sizes, memoryOf, view, withPages, traced, withFrames, withRegs, laid}
-use Rattle.vm.specs.Told.{lentOf}
-use Rattle.run.specs.Loop.{machineAt, placeIn, goes, halts, stops, Turned, turned, turn}
-use Rattle.vm.proofs.Fits.{take-fits, view-fits}
+use Rattle.vm.specs.Core.{Core, used, short, setReg, setRegs, setPc, setFrames, setMemory, setPages, setBytes}
+use Rattle.vm.specs.Run.{next, stop, provided, forward, addressed, loaded, stored8, returned, blockTo, apply, unless, limited}
+use Rattle.vm.specs.Machine.{Lent, Machine, sizes, lendFrames, lendHeap, memoryOf, view, withPages, traced, withFrames, withRegs, laid}
+use Rattle.vm.specs.declared.State.{State}
+use Rattle.run.specs.Loop.{atPc, atDepth, atGc, machineAt, Fitting, placeIn, goes, halts, stops, Turned, turned, turn}
+use Rattle.vm.proofs.Fits.{none-of, fit-frames, short-frames, view-within, view-fits}
 use Rattle.vm.proofs.Replies.{pages-short}
 use Rattle.vm.proofs.Blocks.{at-said, refused-said}
-
-abbrev pub moved : Position → ℕ → Position
-moved at pc = record { pc = pc; depth = at .depth; gc = at .gc }
 
 abbrev went : Machine → Turned
 went m = record { how = goes; machine = m }
@@ -148,48 +145,52 @@ module _ (g : Gc) (a : ℕ) where
 
 -- ---- instructions
 
-module _ (t : StrTable) (at : Position) (regs frames heap slots spare : List ℕ) (deep : at .depth ≤ length frames)
-    (sound : InHeap (at .gc) heap) where
-  abbrev l : Lent
-  l = lentOf frames heap slots spare
-
+module _ (s : State) (at : Position) (regs : List ℕ) (l : Lent) (fit : Fitting at l) where
   abbrev m : Machine
-  m = machineAt t at regs l
+  m = machineAt s at regs l
+
+  abbrev frames : List ℕ
+  frames = l .frames
+
+  abbrev heap : List ℕ
+  heap = l .heap
 
   depth-is : length (take (at .depth) frames) ≡ at .depth
-  depth-is = length-take-le (at .depth) frames deep
+  depth-is = length-take-le (at .depth) frames (fit .deep)
 
   bytes-are : length (take (at .gc .pushed) heap) ≡ at .gc .pushed
-  bytes-are = pushed-is (at .gc) heap sound
+  bytes-are = pushed-is (at .gc) heap (fit .sound)
 
   -- pages and frames laid back as they were
-  pub laid-same : (r : List ℕ) (p : ℕ)
-      → laid [] (record { regs = r; pc = p; frames = view m .frames; memory = view m .memory }) m ≡ machineAt t (moved at p) r l
-  unfolding laid withRegs withFrames withPages traced view memoryOf pagesOf numbersOf
+  pub laid-same : (r : List ℕ) (p : ℕ) → laid [] (setRegs r (setPc p (view m))) m ≡ machineAt s (atPc p at) r l
+  unfolding laid withRegs withFrames withPages traced view memoryOf pagesOf numbersOf setRegs setPc
   laid-same r p = rw (over-take, over-take, bytes-are, depth-is) refl
 
   -- an instruction that changes registers and pc alone
-  goes-on : (r : List ℕ) (p : ℕ)
-      → turned m (limited (sizes l) (next (record { regs = r; pc = p; frames = view m .frames; memory = view m .memory })))
-      ≡ went (machineAt t (moved at p) r l)
+  goes-on : (r : List ℕ) (p : ℕ) → turned m (limited (sizes l) (view m) (next (setRegs r (setPc p (view m))))) ≡ went (machineAt s (atPc p at) r l)
   unfolding turned limited unless
-  goes-on r p = rw (view-fits m (record { regs = r; pc = p; frames = view m .frames; memory = view m .memory }) refl refl, laid-same r p) refl
+  goes-on r p = rw (view-fits m (setRegs r (setPc p (view m))) (unfold used setRegs setPc in refl), laid-same r p) refl
 
-  pub turn-set : (dst v : ℕ) → turn (effect.Set dst v) m ≡ went (machineAt t (moved at (at .pc + 1)) (set regs dst v) l)
-  unfolding turn apply forward setPc setReg view
+  -- one that stops and has done nothing
+  stays : (e : ℕ) → turned m (stop e (view m)) ≡ stopped e m
+  unfolding turned setRegs setPc view
+  stays e = rw (laid-same regs (at .pc)) refl
+
+  pub turn-set : (dst v : ℕ) → turn (effect.Set dst v) m ≡ went (machineAt s (atPc (at .pc + 1) at) (set regs dst v) l)
+  unfolding turn apply forward setPc setRegs view
   turn-set dst v = goes-on (set regs dst v) (at .pc + 1)
 
-  pub turn-skip : turn effect.Skip m ≡ went (machineAt t (moved at (at .pc + 1)) regs l)
-  unfolding turn apply forward setPc view
+  pub turn-skip : turn effect.Skip m ≡ went (machineAt s (atPc (at .pc + 1) at) regs l)
+  unfolding turn apply forward setPc setRegs view
   turn-skip = goes-on regs (at .pc + 1)
 
-  pub turn-goto : (target : ℕ) → turn (effect.Goto target) m ≡ went (machineAt t (moved at target) regs l)
-  unfolding turn apply setPc view
+  pub turn-goto : (target : ℕ) → turn (effect.Goto target) m ≡ went (machineAt s (atPc target at) regs l)
+  unfolding turn apply setPc setRegs view
   turn-goto target = goes-on regs target
 
   pub turn-stop : (e : ℕ) → turn (effect.Stop e) m ≡ stopped e m
-  unfolding turn apply limited turned
-  turn-stop e = refl
+  unfolding turn apply limited
+  turn-stop e = stays e
 
   pub turn-halt : turn effect.Halt m ≡ record { how = halts; machine = m }
   unfolding turn apply limited turned
@@ -204,13 +205,13 @@ module _ (t : StrTable) (at : Position) (regs frames heap slots spare : List ℕ
   pushed-length = length-append (take (at .depth) frames) (at .pc ∷ []) ∙ rw depth-is refl
 
   frame-short : (func : ℕ) → short (sizes l) (used (setPc func (setFrames pushed-frames (view m))))
-      ≡ lacking (leb (at .depth + 1) (length frames)) true true
-  unfolding short used sizes view memoryOf setPc setFrames pagesOf
-  frame-short func = rw (pushed-length, le-leb _ _ (take-fits (t .active) slots), le-leb _ _ (take-fits (at .gc .pushed) heap)) refl
+      ≡ failing (test (leb (at .depth + 1) (length frames)) 3 ∷ [])
+  unfolding used sizes view memoryOf setPc setFrames
+  frame-short func = rw pushed-length (short-frames (sizes l) (used (view m)) (view-within m) (at .depth + 1))
 
   pub turn-deep : (func : ℕ) → length frames ≤ at .depth → turn (effect.Call func) m ≡ stopped 3 m
-  unfolding turn apply limited turned lacking unless view
-  turn-deep func h = rw (frame-short func, lt-leb (at .depth + 1) (length frames) (omega arith)) refl
+  unfolding turn apply limited failing unless view
+  turn-deep func h = rw (frame-short func, lt-leb (at .depth + 1) (length frames) (omega arith)) (stays 3)
 
   frame-laid : at .depth < length frames → over pushed-frames frames ≡ set frames (at .depth) (at .pc)
   frame-laid h =
@@ -219,14 +220,14 @@ module _ (t : StrTable) (at : Position) (regs frames heap slots spare : List ℕ
 
   pub turn-call : (func : ℕ) → at .depth < length frames
       → turn (effect.Call func) m ≡ went
-      (machineAt t (record { pc = func; depth = at .depth + 1; gc = at .gc }) regs (lentOf (set frames (at .depth) (at .pc)) heap slots spare))
-  unfolding turn apply limited turned lacking unless laid withRegs withFrames withPages traced view memoryOf pagesOf numbersOf setPc setFrames
+      (machineAt s (atPc func (atDepth (at .depth + 1) at)) regs (lendFrames (set frames (at .depth) (at .pc)) l))
+  unfolding turn apply limited turned failing unless laid withRegs withFrames withPages traced view memoryOf pagesOf numbersOf setPc setFrames
   turn-call func h =
       rw (frame-short func, le-leb (at .depth + 1) (length frames) (omega arith), pushed-length, frame-laid h, over-take, bytes-are) refl
 
   pub turn-underflow : at .depth ≡ 0 → turn effect.Ret m ≡ stopped 8 m
-  unfolding turn apply limited turned returned view
-  turn-underflow e = rw (depth-is, e) refl
+  unfolding turn apply limited returned view
+  turn-underflow e = let none-in : length (view m .frames) ≡ 0 = depth-is ∙ e in rw none-in (stays 8)
 
   module _ (d : ℕ) (e : at .depth ≡ suc d) where
     inner-length : length (take d (take (at .depth) frames)) ≡ d
@@ -239,17 +240,12 @@ module _ (t : StrTable) (at : Position) (regs frames heap slots spare : List ℕ
     back = setPc ((getD (take (at .depth) frames) d 0 + 1) % 2 ^ 64) (setFrames (take d (take (at .depth) frames)) (view m))
 
     back-fits : short (sizes l) (used back) ≡ none
-    unfolding short used sizes view memoryOf setPc setFrames pagesOf lacking
+    unfolding used sizes view memoryOf setPc setFrames
     back-fits =
-        rw (
-          inner-length,
-          le-leb d (length frames) (omega arith),
-          le-leb _ _ (take-fits (t .active) slots),
-          le-leb _ _ (take-fits (at .gc .pushed) heap),
-          lacking,
-        ) refl
+        let deep = fit .deep in
+        rw inner-length (none-of _ _ (fit-frames (sizes l) (used (view m)) (view-within m) d (omega arith)))
 
-    pub turn-ret : turn effect.Ret m ≡ went (machineAt t (record { pc = (getD frames d 0 + 1) % 2 ^ 64; depth = d; gc = at .gc }) regs l)
+    pub turn-ret : turn effect.Ret m ≡ went (machineAt s (atPc ((getD frames d 0 + 1) % 2 ^ 64) (atDepth d at)) regs l)
     unfolding turn apply limited turned unless returned view memoryOf laid withRegs withFrames withPages traced pagesOf numbersOf setPc setFrames
     turn-ret =
         let deeper : length (view m .frames) ≡ suc d = depth-is ∙ e in
@@ -271,12 +267,12 @@ module _ (t : StrTable) (at : Position) (regs frames heap slots spare : List ℕ
       not-there = in-pages address ∙ outside-by _ (address - at .gc .base) out
 
       pub turn-load-outside : (dst : ℕ) → turn (effect.Load dst base offset) m ≡ stopped 6 m
-      unfolding turn apply limited turned provided
-      turn-load-outside dst = rw not-there refl
+      unfolding turn apply limited provided
+      turn-load-outside dst = rw not-there (stays 6)
 
       pub turn-store-outside : (v : ℕ) → turn (effect.Store base offset v) m ≡ stopped 6 m
-      unfolding turn apply limited turned provided
-      turn-store-outside v = rw not-there refl
+      unfolding turn apply limited provided
+      turn-store-outside v = rw not-there (stays 6)
 
     module _ (i : ℕ) (there : placeIn (at .gc) address ≡ Place.At i) where
       is-there : addressed (view m .memory .pages) address ≡ true
@@ -291,8 +287,8 @@ module _ (t : StrTable) (at : Position) (regs frames heap slots spare : List ℕ
           let r = reached (at .gc) address i there in
           rw (← (r .place)) (ap valueOf (part-take i 8 (at .gc .pushed) heap room))
 
-      pub turn-load : (dst : ℕ) → turn (effect.Load dst base offset) m ≡ went (machineAt t (moved at (at .pc + 1)) (set regs dst (number 8 i heap)) l)
-      unfolding turn apply provided forward setPc setReg
+      pub turn-load : (dst : ℕ) → turn (effect.Load dst base offset) m ≡ went (machineAt s (atPc (at .pc + 1) at) (set regs dst (number 8 i heap)) l)
+      unfolding turn apply provided forward setPc setRegs
       turn-load dst = rw (is-there, loaded-is) (unfold view in goes-on (set regs dst (number 8 i heap)) (at .pc + 1))
 
       abbrev stores : ℕ → Pages
@@ -310,14 +306,14 @@ module _ (t : StrTable) (at : Position) (regs frames heap slots spare : List ℕ
           rw (← (r .place)) (over-write i (bytesOf 8 v) (take (at .gc .pushed) heap) heap (rw (n, bytes-are) room) ∙ rw over-take refl)
 
       stores-fit : (v : ℕ) → short (sizes l) (used (forward (setMemory (setPages (stores v) (view m .memory)) (view m)))) ≡ none
-      unfolding lacking used forward setPc setMemory setPages view
+      unfolding failing used forward setPc setMemory setPages view
       stores-fit v =
           let all : leb (length (stores v .bytes)) (length heap)
-          ≡ true = rw (stores-length v) (le-leb (at .gc .pushed) (length heap) (sound .in-heap)) in
-          pages-short (m .state) frames heap slots spare (stores v) ∙ rw (all, lacking) refl
+          ≡ true = rw (stores-length v) (le-leb (at .gc .pushed) (length heap) (fit .sound .in-heap)) in
+          pages-short (m .state) l (stores v) ∙ rw all refl
 
       pub turn-store : (v : ℕ) → turn (effect.Store base offset v) m
-          ≡ went (machineAt t (moved at (at .pc + 1)) regs (lentOf frames (write i (bytesOf 8 v) heap) slots spare))
+          ≡ went (machineAt s (atPc (at .pc + 1) at) regs (lendHeap (write i (bytesOf 8 v) heap) l))
       unfolding turn apply limited turned provided unless laid withRegs withFrames withPages traced numbersOf forward setPc setMemory setPages
       turn-store v = rw (is-there, stores-fit v, stores-laid v, stores-length v)
           (unfold view memoryOf pagesOf stored8 setBytes in rw (over-take, depth-is) refl)
@@ -331,21 +327,21 @@ module _ (t : StrTable) (at : Position) (regs frames heap slots spare : List ℕ
     abbrev holding : Core
     holding = forward (setReg dst (b .address) (setMemory (setPages (b .pages) (view m .memory)) (view m)))
 
-    alloc-short : short (sizes l) (used holding) ≡ lacking true true (fits (b .pages) (length heap))
-    unfolding fits used forward setPc setReg setMemory setPages view
-    alloc-short = pages-short (m .state) frames heap slots spare (b .pages)
+    alloc-short : short (sizes l) (used holding) ≡ failing (test (fits (b .pages) (length heap)) 2 ∷ [])
+    unfolding fits used forward setPc setRegs setMemory setPages view
+    alloc-short = pages-short (m .state) l (b .pages)
 
-    pub turn-no-block : r ≡ alloc.Refused → turn (effect.Alloc dst kind n) m ≡ stopped 2 (machineAt t at regs (lentOf frames x slots spare))
-    unfolding turn apply limited turned unless lacking blockTo allocOf view memoryOf
+    pub turn-no-block : r ≡ alloc.Refused → turn (effect.Alloc dst kind n) m ≡ stopped 2 (machineAt s at regs (lendHeap x l))
+    unfolding turn apply limited unless failing blockTo allocOf view memoryOf
     turn-no-block q =
-        let s = refused-said (fits (b .pages) (length heap)) b heap x r q e in
-        rw (alloc-short, s .0, s .1) refl
+        let no = refused-said (fits (b .pages) (length heap)) b heap x r q e in
+        rw (alloc-short, no .0, no .1) (stays 2)
 
     pub turn-block : (a : ℕ) (g : Gc) → r ≡ alloc.At a g
         → turn (effect.Alloc dst kind n) m
-        ≡ went (machineAt t (record { pc = at .pc + 1; depth = at .depth; gc = g }) (set regs dst a) (lentOf frames x slots spare))
-    unfolding turn apply limited turned unless lacking blockTo allocOf laid withRegs withFrames withPages traced forward setPc setReg setMemory
+        ≡ went (machineAt s (atPc (at .pc + 1) (atGc g at)) (set regs dst a) (lendHeap x l))
+    unfolding turn apply limited turned unless failing blockTo allocOf laid withRegs withFrames withPages traced forward setPc setRegs setMemory
         setPages view memoryOf
     turn-block a g q =
-        let s = at-said (fits (b .pages) (length heap)) b heap x r a g q e in
-        rw (alloc-short, s .fitting, s .address, s .numbers, s .bytes, over-take, depth-is) refl
+        let is = at-said (fits (b .pages) (length heap)) b heap x r a g q e in
+        rw (alloc-short, is .fitting, is .address, is .numbers, is .bytes, over-take, depth-is) refl

@@ -4,7 +4,6 @@ use mathlib.Core.Bool.{cond, _&&_, _||_}
 use mathlib.Core.List.{List, []}
 use lib.ListN.{length, take}
 use lib.Dec.{eqb}
-use Rattle.string.specs.declared.table.StrTable.{StrTable}
 use Rattle.string.specs.Payload.{reaches}
 use Rattle.gc.specs.declared.Gc.{Gc}
 use Rattle.gc.specs.Lent.{InHeap}
@@ -18,25 +17,42 @@ use Rattle.run.specs.declared.instruction.Place.{Place}
 use Rattle.run.specs.declared.Ended.{Ended}
 use Rattle.run.specs.declared.Ran as Code
 use Rattle.vm.specs.Run.{Step, next, halted, stop, apply, limited, Ran, go}
-use Rattle.vm.specs.Machine.{Lent, Machine, sizes, view, laid, Called}
+use Rattle.vm.specs.Machine.{Lent, Machine, sizes, keepRegs, keepPc, keepDepth, keepGc, view, laid, Called}
 use Rattle.vm.specs.Loaded.{Returns}
 use Rattle.vm.specs.Told.{machineOf, answerOf}
 
 -- ---- what the loop keeps
 
--- the machine at a position: the loop keeps its registers apart
-abbrev pub stateAt : StrTable → Position → List ℕ → State
-stateAt t at regs = record { regs = regs; pc = at .pc; depth = at .depth; gc = at .gc; strings = t }
+-- a position with one part changed
+abbrev pub atPc : ℕ → Position → Position
+atPc x at = record { pc = x; depth = at .depth; gc = at .gc }
 
-abbrev pub machineAt : StrTable → Position → List ℕ → Lent → Machine
-machineAt t at regs l = machineOf (stateAt t at regs) l
+abbrev pub atDepth : ℕ → Position → Position
+atDepth x at = record { pc = at .pc; depth = x; gc = at .gc }
 
--- a position inside the code of n words, which can belong to the buffers
-pub record Going (n : ℕ) (at : Position) (frames heap : List ℕ) : Type 0 where
+abbrev pub atGc : Gc → Position → Position
+atGc x at = record { pc = at .pc; depth = at .depth; gc = x }
+
+-- a state at a position, the rest as in s; and the position of a state. The loop keeps its registers apart
+abbrev pub stateAt : State → Position → List ℕ → State
+stateAt s at regs = keepRegs regs (keepPc (at .pc) (keepDepth (at .depth) (keepGc (at .gc) s)))
+
+abbrev pub positionOf : State → Position
+positionOf s = record { pc = s .pc; depth = s .depth; gc = s .gc }
+
+abbrev pub machineAt : State → Position → List ℕ → Lent → Machine
+machineAt s at regs l = machineOf (stateAt s at regs) l
+
+-- a position that can belong to the buffers
+pub record Fitting (at : Position) (l : Lent) : Type 0 where
+  pub deep : at .depth ≤ length (l .frames)
+  pub sound : InHeap (at .gc) (l .heap)
+
+-- and is inside the code of n words
+pub record Going (n : ℕ) (at : Position) (l : Lent) : Type 0 where
   pub here : at .pc < n
-  pub returns : Returns n (take (at .depth) frames)
-  pub deep : at .depth ≤ length frames
-  pub sound : InHeap (at .gc) heap
+  pub returns : Returns n (take (at .depth) (l .frames))
+  pub fitting : Fitting at l
 
 -- ---- an instruction
 
@@ -57,16 +73,16 @@ pub record Turned : Type 0 where
 unfoldable pub turned : Machine → Step → Turned
 turned m (next d) = record { how = goes; machine = laid [] d m }
 turned m halted = record { how = halts; machine = m }
-turned m (stop e) = record { how = stops e; machine = m }
+turned m (stop e d) = record { how = stops e; machine = laid [] d m }
 
 unfoldable pub turn : Effect → Machine → Turned
-turn e m = turned m (limited (sizes (m .lent)) (apply e (view m)))
+turn e m = turned m (limited (sizes (m .lent)) (view m) (apply e (view m)))
 
 -- as the code answers it, with what it leaves
-abbrev pub turnOf : StrTable → Position → List ℕ → Lent → Turn → Turned
-turnOf t at regs l (Next to) = record { how = goes; machine = machineAt t to regs l }
-turnOf t at regs l Halt = record { how = halts; machine = machineAt t at regs l }
-turnOf t at regs l (Stop e) = record { how = stops e; machine = machineAt t at regs l }
+abbrev pub turnOf : State → Position → List ℕ → Lent → Turn → Turned
+turnOf s at regs l (Next to) = record { how = goes; machine = machineAt s to regs l }
+turnOf s at regs l Halt = record { how = halts; machine = machineAt s at regs l }
+turnOf s at regs l (Stop e) = record { how = stops e; machine = machineAt s at regs l }
 
 -- ---- a run
 
@@ -83,15 +99,15 @@ finishes n m r = record { ending = r .ending; steps = n + r .steps; machine = la
 unfoldable pub finished : Image → ℕ → ℕ → Machine → Finished
 finished im b n m = finishes n m (go (sizes (m .lent)) im b (view m))
 
-abbrev pub finishedAt : StrTable → List ℕ → Lent → Ended → Finished
-finishedAt t regs l r = record { ending = r .ending; steps = r .steps; machine = machineAt t (r .at) regs l }
+abbrev pub finishedAt : State → List ℕ → Lent → Ended → Finished
+finishedAt s regs l r = record { ending = r .ending; steps = r .steps; machine = machineAt s (r .at) regs l }
 
 -- the state after a run: 'After every end but 0 and 5 the stored pc is the one from before the run'
 abbrev pub storedPc : ℕ → ℕ → ℕ → ℕ
 storedPc e first pc = cond (eqb e 0 || eqb e 5) pc first
 
 abbrev pub storedIn : State → List ℕ → Ended → State
-storedIn s regs e = record { regs = regs; pc = storedPc (e .ending) (s .pc) (e .at .pc); depth = e .at .depth; gc = e .at .gc; strings = s .strings }
+storedIn s regs e = keepPc (storedPc (e .ending) (s .pc) (e .at .pc)) (stateAt s (e .at) regs)
 
 abbrev pub ranTold : Code.Ran → Lent → Called
 ranTold r l = record { answer = answerOf (r .end); machine = machineOf (r .state) l }

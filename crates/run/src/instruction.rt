@@ -3,12 +3,12 @@ ghost use mathlib.Core.Path.{_≡_};
 ghost use mathlib.Core.List.{List};
 ghost use Prim.Native.Nat.{ℕ, _+_, _^_, _<_, _≤_};
 ghost use lib.ListN.{length};
-ghost use Rattle.string.specs.declared.table.StrTable.{StrTable};
 ghost use Rattle.gc.specs.Lent.{InHeap};
 ghost use Rattle.program.specs.declared.Effect.{Effect};
 ghost use Rattle.vm.specs.Loaded.{Writable};
-ghost use Rattle.vm.specs.Told.{lentOf};
-ghost use Rattle.run.specs.Loop.{machineAt, placeIn, turn, turnOf};
+ghost use Rattle.vm.specs.declared.State.{State};
+ghost use Rattle.vm.specs.Machine.{Lent, lendFrames, lendHeap, lendRun};
+ghost use Rattle.run.specs.Loop.{atPc, machineAt, Fitting, placeIn, turn, turnOf};
 use anomaly::Anomaly;
 use gc::Alloc;
 use gc::AllocType;
@@ -61,7 +61,7 @@ fn reach(gc: Gc, base: u64, offset: u64) -> Place
 
 impl Position {
     fn to(self, pc: usize) -> Turn
-        ensures { λ r. ⌜ r ≡ Turn.Next (record { pc = pc; depth = self .depth; gc = self .gc }) ⌝ }
+        ensures { λ r. ⌜ r ≡ Turn.Next (atPc pc self) ⌝ }
     {
         let mut at = self;
         at.pc = pc;
@@ -71,11 +71,9 @@ impl Position {
 
 fn set(at: Position, dst: usize, value: u64, regs: &mut [u64; 32]) -> Turn
     requires { ⌜ (dst < 32) × (at .pc + 1 < 2 ^ 64) ⌝ }
-    ensures { λ r. ⌜ ((t : StrTable) (frames heap slots spare : List ℕ)
-        → at .depth ≤ length frames
-        → InHeap (at .gc) heap
-        → turnOf t at (now (regs .exit)) (lentOf frames heap slots spare) r
-        ≡ turn (Effect.Set dst value) (machineAt t at (now (regs .entry)) (lentOf frames heap slots spare))) ⌝ }
+    ensures { λ r. ⌜ ((s : State) (l : Lent)
+        → Fitting at l
+        → turnOf s at (now (regs .exit)) l r ≡ turn (Effect.Set dst value) (machineAt s at (now (regs .entry)) l)) ⌝ }
 {
     regs[dst] = value;
     at.to(at.pc + 1)
@@ -83,10 +81,10 @@ fn set(at: Position, dst: usize, value: u64, regs: &mut [u64; 32]) -> Turn
 
 fn call(at: Position, func: usize, frames: &mut [u64]) -> Turn
     requires { ⌜ (at .depth ≤ length (now frames)) ⌝ }
-    ensures { λ r. ⌜ ((t : StrTable) (regs heap slots spare : List ℕ)
-        → InHeap (at .gc) heap
-        → turnOf t at regs (lentOf (now (frames .exit)) heap slots spare) r
-        ≡ turn (Effect.Call func) (machineAt t at regs (lentOf (now (frames .entry)) heap slots spare))) ⌝ }
+    ensures { λ r. ⌜ ((s : State) (regs : List ℕ) (l : Lent)
+        → Fitting at (lendFrames (now (frames .entry)) l)
+        → turnOf s at regs (lendFrames (now (frames .exit)) l) r
+        ≡ turn (Effect.Call func) (machineAt s at regs (lendFrames (now (frames .entry)) l))) ⌝ }
 {
     let depth = at.depth;
     if frames.len() <= depth {
@@ -102,10 +100,10 @@ fn call(at: Position, func: usize, frames: &mut [u64]) -> Turn
 // Back behind the `Call` that a frame holds the place of.
 fn ret(at: Position, frames: &[u64]) -> Turn
     requires { ⌜ (at .depth ≤ length (now frames)) ⌝ }
-    ensures { λ r. ⌜ ((t : StrTable) (regs heap slots spare : List ℕ)
-        → InHeap (at .gc) heap
-        → turnOf t at regs (lentOf (now (frames .entry)) heap slots spare) r
-        ≡ turn Effect.Ret (machineAt t at regs (lentOf (now (frames .entry)) heap slots spare))) ⌝ }
+    ensures { λ r. ⌜ ((s : State) (regs : List ℕ) (l : Lent)
+        → Fitting at (lendFrames (now (frames .entry)) l)
+        → turnOf s at regs (lendFrames (now (frames .entry)) l) r
+        ≡ turn Effect.Ret (machineAt s at regs (lendFrames (now (frames .entry)) l))) ⌝ }
 {
     if at.depth == 0 {
         return Turn::Stop(Anomaly::FRAME_UNDERFLOW);
@@ -119,10 +117,10 @@ fn ret(at: Position, frames: &[u64]) -> Turn
 
 fn load(at: Position, dst: usize, base: u64, offset: u64, regs: &mut [u64; 32], heap: &[u8]) -> Turn
     requires { ⌜ (dst < 32) × (at .pc + 1 < 2 ^ 64) × InHeap (at .gc) (now heap) ⌝ }
-    ensures { λ r. ⌜ ((t : StrTable) (frames slots spare : List ℕ)
-        → at .depth ≤ length frames
-        → turnOf t at (now (regs .exit)) (lentOf frames (now (heap .entry)) slots spare) r
-        ≡ turn (Effect.Load dst base offset) (machineAt t at (now (regs .entry)) (lentOf frames (now (heap .entry)) slots spare))) ⌝ }
+    ensures { λ r. ⌜ ((s : State) (l : Lent)
+        → Fitting at (lendHeap (now (heap .entry)) l)
+        → turnOf s at (now (regs .exit)) (lendHeap (now (heap .entry)) l) r
+        ≡ turn (Effect.Load dst base offset) (machineAt s at (now (regs .entry)) (lendHeap (now (heap .entry)) l))) ⌝ }
 {
     let Place::At(i) = reach(at.gc, base, offset) else {
         return Turn::Stop(Anomaly::BAD_ADDRESS);
@@ -133,10 +131,10 @@ fn load(at: Position, dst: usize, base: u64, offset: u64, regs: &mut [u64; 32], 
 
 fn store(at: Position, base: u64, offset: u64, value: u64, heap: &mut [u8]) -> Turn
     requires { ⌜ (at .pc + 1 < 2 ^ 64) × InHeap (at .gc) (now heap) ⌝ }
-    ensures { λ r. ⌜ ((t : StrTable) (regs frames slots spare : List ℕ)
-        → at .depth ≤ length frames
-        → turnOf t at regs (lentOf frames (now (heap .exit)) slots spare) r
-        ≡ turn (Effect.Store base offset value) (machineAt t at regs (lentOf frames (now (heap .entry)) slots spare))) ⌝ }
+    ensures { λ r. ⌜ ((s : State) (regs : List ℕ) (l : Lent)
+        → Fitting at (lendHeap (now (heap .entry)) l)
+        → turnOf s at regs (lendHeap (now (heap .exit)) l) r
+        ≡ turn (Effect.Store base offset value) (machineAt s at regs (lendHeap (now (heap .entry)) l))) ⌝ }
 {
     let Place::At(i) = reach(at.gc, base, offset) else {
         return Turn::Stop(Anomaly::BAD_ADDRESS);
@@ -154,10 +152,10 @@ fn alloc(
     heap: &mut [u8],
 ) -> Turn
     requires { ⌜ (dst < 32) × (kind < 4) × (at .pc + 1 < 2 ^ 64) × InHeap (at .gc) (now heap) ⌝ }
-    ensures { λ r. ⌜ ((t : StrTable) (frames slots spare : List ℕ)
-        → at .depth ≤ length frames
-        → turnOf t at (now (regs .exit)) (lentOf frames (now (heap .exit)) slots spare) r
-        ≡ turn (Effect.Alloc dst kind size) (machineAt t at (now (regs .entry)) (lentOf frames (now (heap .entry)) slots spare))) ⌝ }
+    ensures { λ r. ⌜ ((s : State) (l : Lent)
+        → Fitting at (lendHeap (now (heap .entry)) l)
+        → turnOf s at (now (regs .exit)) (lendHeap (now (heap .exit)) l) r
+        ≡ turn (Effect.Alloc dst kind size) (machineAt s at (now (regs .entry)) (lendHeap (now (heap .entry)) l))) ⌝ }
 {
     let header = Metadata::new(AllocType::from_number(kind), false, size);
     let Alloc::At(address, gc) = at.gc.alloc(header, heap) else {
@@ -177,10 +175,10 @@ pub fn apply(
     frames: &mut [u64],
     heap: &mut [u8],
 ) -> Turn
-    requires { ⌜ Writable effect × (at .pc + 1 < 2 ^ 64) × (at .depth ≤ length (now frames)) × InHeap (at .gc) (now heap) ⌝ }
-    ensures { λ r. ⌜ ((t : StrTable) (slots spare : List ℕ)
-        → turnOf t at (now (regs .exit)) (lentOf (now (frames .exit)) (now (heap .exit)) slots spare) r
-        ≡ turn effect (machineAt t at (now (regs .entry)) (lentOf (now (frames .entry)) (now (heap .entry)) slots spare))) ⌝ }
+    requires { ⌜ Writable effect × (at .pc + 1 < 2 ^ 64) × ((l : Lent) → Fitting at (lendRun (now frames) (now heap) l)) ⌝ }
+    ensures { λ r. ⌜ ((s : State) (l : Lent)
+        → turnOf s at (now (regs .exit)) (lendRun (now (frames .exit)) (now (heap .exit)) l) r
+        ≡ turn effect (machineAt s at (now (regs .entry)) (lendRun (now (frames .entry)) (now (heap .entry)) l))) ⌝ }
 {
     match effect {
         Effect::Set(dst, v) => set(at, dst, v, regs),

@@ -1,17 +1,15 @@
 // A run: instructions one after another, until one halts or stops it or the budget is completed.
 ghost use mathlib.Core.Path.{_≡_};
-ghost use mathlib.Core.List.{List, []};
 ghost use mathlib.Core.Bool.{true, _||_};
 ghost use mathlib.Core.Option.{none};
-ghost use Prim.Native.Nat.{ℕ};
 ghost use lib.ListN.{length};
 ghost use lib.Dec.{eqb};
 ghost use Rattle.anomaly.specs.Table.{isAnomaly};
-ghost use Rattle.string.specs.declared.table.StrTable.{StrTable};
+ghost use Rattle.vm.specs.declared.State.{State};
 ghost use Rattle.program.specs.Image.{tablesOf, imageOf, failing};
-ghost use Rattle.vm.specs.Machine.{run, tests, runCall, perform, ended};
+ghost use Rattle.vm.specs.Machine.{Lent, lendRun, run, tests, runCall, perform, ended};
 ghost use Rattle.vm.specs.Loaded.{Loaded};
-ghost use Rattle.vm.specs.Told.{lentOf, machineOf, answerOf};
+ghost use Rattle.vm.specs.Told.{machineOf, answerOf};
 ghost use Rattle.run.specs.Loop.{machineAt, Going, finished, finishedAt, storedPc, storedIn, ranTold};
 
 mod instruction;
@@ -61,13 +59,13 @@ fn go(
 ) -> Ended
     requires { ⌜ Loaded (imageOf (now code) (now globals) (tablesOf (now «switch_firsts») (now «switch_ends») (now «switch_entries»))
         (tablesOf (now «lookup_firsts») (now «lookup_ends») (now «lookup_entries»)) (now defaults))
-        × Going (length (now code)) from (now frames) (now heap) ⌝ }
-    ensures { λ r. ⌜ ((t : StrTable) (slots spare : List ℕ)
-        → finishedAt t (now (regs .exit)) (lentOf (now (frames .exit)) (now (heap .exit)) slots spare) r
+        × ((l : Lent) → Going (length (now code)) from (lendRun (now frames) (now heap) l)) ⌝ }
+    ensures { λ r. ⌜ ((s : State) (l : Lent)
+        → finishedAt s (now (regs .exit)) (lendRun (now (frames .exit)) (now (heap .exit)) l) r
         ≡ finished (imageOf (now (code .entry)) (now (globals .entry))
         (tablesOf (now («switch_firsts» .entry)) (now («switch_ends» .entry)) (now («switch_entries» .entry)))
         (tablesOf (now («lookup_firsts» .entry)) (now («lookup_ends» .entry)) (now («lookup_entries» .entry))) (now (defaults .entry)))
-        budget 0 (machineAt t from (now (regs .entry)) (lentOf (now (frames .entry)) (now (heap .entry)) slots spare))) ⌝ }
+        budget 0 (machineAt s from (now (regs .entry)) (lendRun (now (frames .entry)) (now (heap .entry)) l))) ⌝ }
 {
     let mut at = from;
     let mut steps: Steps = 0;
@@ -188,17 +186,17 @@ fn run_checked(
     frames: &mut [u64],
     heap: &mut [u8],
 ) -> Ran
-    requires { ⌜ failing (tests (run (imageOf (now code) (now globals)
+    requires { ⌜ ((l : Lent) → failing (tests (run (imageOf (now code) (now globals)
         (tablesOf (now «switch_firsts») (now «switch_ends») (now «switch_entries»))
         (tablesOf (now «lookup_firsts») (now «lookup_ends») (now «lookup_entries»)) (now defaults)) budget) state
-        (lentOf (now frames) (now heap) [] []))
-        ≡ none ⌝ }
-    ensures { λ r. ⌜ ((slots spare : List ℕ)
-        → ranTold r (lentOf (now (frames .exit)) (now (heap .exit)) slots spare)
+        (lendRun (now frames) (now heap) l))
+        ≡ none) ⌝ }
+    ensures { λ r. ⌜ ((l : Lent)
+        → ranTold r (lendRun (now (frames .exit)) (now (heap .exit)) l)
         ≡ runCall (imageOf (now (code .entry)) (now (globals .entry))
         (tablesOf (now («switch_firsts» .entry)) (now («switch_ends» .entry)) (now («switch_entries» .entry)))
         (tablesOf (now («lookup_firsts» .entry)) (now («lookup_ends» .entry)) (now («lookup_entries» .entry))) (now (defaults .entry)))
-        budget (machineOf state (lentOf (now (frames .entry)) (now (heap .entry)) slots spare))) ⌝ }
+        budget (machineOf state (lendRun (now (frames .entry)) (now (heap .entry)) l))) ⌝ }
 {
     if code.len() == 0 {
         return idle(state);
@@ -248,12 +246,12 @@ pub fn run(
     frames: &mut [u64],
     heap: &mut [u8],
 ) -> Ran
-    ensures { λ r. ⌜ ((slots spare : List ℕ)
-        → ranTold r (lentOf (now (frames .exit)) (now (heap .exit)) slots spare)
+    ensures { λ r. ⌜ ((l : Lent)
+        → ranTold r (lendRun (now (frames .exit)) (now (heap .exit)) l)
         ≡ perform (run (imageOf (now (code .entry)) (now (globals .entry))
         (tablesOf (now («switch_firsts» .entry)) (now («switch_ends» .entry)) (now («switch_entries» .entry)))
         (tablesOf (now («lookup_firsts» .entry)) (now («lookup_ends» .entry)) (now («lookup_entries» .entry))) (now (defaults .entry)))
-        budget) (machineOf state (lentOf (now (frames .entry)) (now (heap .entry)) slots spare))) ⌝ }
+        budget) (machineOf state (lendRun (now (frames .entry)) (now (heap .entry)) l))) ⌝ }
 {
     let gc = state.gc;
     let sizes = lent::frames_ok(frames.len()) & lent::heap_ok(gc.base, heap.len());

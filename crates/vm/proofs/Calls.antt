@@ -1,12 +1,12 @@
 -- A call on a machine that holds a core leaves one that holds a core. Assumes nothing.
-use mathlib.Core.Path.{_≡_, refl, ap, subst}
+use mathlib.Core.Path.{_≡_, refl, ap}
 use Prim.Native.Nat.{ℕ, _≤_}
 use mathlib.Core.Option.{none}
-use mathlib.Core.List.{List, [], _∷_}
+use mathlib.Core.List.{[], _∷_}
 use lib.ListN.{length, set}
-use Rattle.vm.specs.Core.{Sizes, Core, Memory, used, short, setFrames, setMemory, setPages}
+use Rattle.vm.specs.Core.{Sizes, Core, Memory, used, short, setRegs, setPc, setFrames, setMemory, setPages}
 use Rattle.program.specs.Image.{Image, failing}
-use Rattle.vm.specs.Machine.{Machine, memoryOf, view, withPages, withNames, Setting, reset, putPc, putReg, Host, allocate, option, intern}
+use Rattle.vm.specs.Machine.{Machine, memoryOf, view, withPages, withNames, withFrames, withRegs, Setting, reset, putPc, putReg, Host, allocate, option, intern}
 use Rattle.vm.specs.Machine.{internSmall, Call, run, host, Acted, runs, hosted, unset, withSetting, laid, runLeaves, hostLeaves, granted}
 use Rattle.vm.specs.Machine.{hostCall, runCall, act, tried, perform}
 use Rattle.vm.proofs.Fits.{fits-of}
@@ -20,14 +20,14 @@ unfolding setPages
 rejoined c d k = rw (← (k .slots), ← (k .names)) refl
 
 unfoldable pub settingOn : Setting → Core → Core
-settingOn reset c = record { regs = c .regs; pc = unset; frames = unset ∷ []; memory = c .memory }
-settingOn (putPc p) c = record { regs = c .regs; pc = p; frames = c .frames; memory = c .memory }
-settingOn (putReg r v) c = record { regs = set (c .regs) r v; pc = c .pc; frames = c .frames; memory = c .memory }
+settingOn reset c = setRegs (c .regs) (setPc unset (setFrames (unset ∷ []) c))
+settingOn (putPc p) c = setRegs (c .regs) (setPc p c)
+settingOn (putReg r v) c = setRegs (set (c .regs) r v) (setPc (c .pc) c)
 
 module _ (n : Sizes) (c : Core) (m : Machine) (h : Holds n c m) where
   -- a run
   pub holds-run : (a : Acted) → Good n c (a .core) → Holds n (a .core) (runLeaves m a)
-  unfolding runLeaves laid setFrames setMemory used
+  unfolding runLeaves laid setRegs setPc setFrames setMemory used
   holds-run a g =
       let f = fits-of n (used (a .core)) (g .1) in
       let pages = holds-pages n c m h (a .core .memory .pages) (g .0 .base) (f .heap) in
@@ -48,20 +48,10 @@ module _ (n : Sizes) (c : Core) (m : Machine) (h : Holds n c m) where
   memory-is = ap (λ (d : Core). d .memory) (h .core)
 
   pub holds-setting : 1 ≤ n .frames → (k : Setting) → Holds n (settingOn k c) (withSetting k m)
-  unfolding withSetting settingOn setFrames
-  holds-setting r reset =
-      subst (λ (x : List ℕ). Holds n (record { regs = x; pc = unset; frames = unset ∷ []; memory = c .memory }) (withSetting reset m)) regs-are
-      (holds-regs n _ _ (holds-frames n c m h [] (unset ∷ []) r) (m .state .regs) unset)
-  holds-setting r (putPc p) =
-      subst (λ (x : List ℕ). Holds n (record { regs = x; pc = p; frames = c .frames; memory = c .memory }) (withSetting (putPc p) m)) regs-are
-      (holds-regs n c m h (m .state .regs) p)
-  holds-setting r (putReg i v) =
-      subst (λ (x : List ℕ). Holds n (record { regs = set x i v; pc = c .pc; frames = c .frames; memory = c .memory })
-      (withSetting (putReg i v) m)) regs-are
-      (subst
-      (λ (x : ℕ). Holds n (record { regs = set (m .state .regs) i v; pc = x; frames = c .frames; memory = c .memory })
-      (withSetting (putReg i v) m)) pc-is
-      (holds-regs n c m h (set (m .state .regs) i v) (m .state .pc)))
+  unfolding withSetting settingOn withFrames withRegs
+  holds-setting r reset = rw regs-are (holds-regs n _ _ (holds-frames n c m h [] (unset ∷ []) r) (c .regs) unset)
+  holds-setting r (putPc p) = rw regs-are (holds-regs n c m h (c .regs) p)
+  holds-setting r (putReg i v) = rw (regs-are, pc-is) (holds-regs n c m h (set (c .regs) i v) (c .pc))
 
   -- a host call that fits
   holds-kept : (l : Memory) → Kept (c .memory) l → short n (used (setMemory l c)) ≡ none → Holds n (setMemory l c) (withPages (l .pages) m)

@@ -3,18 +3,16 @@
 -- with, is no listed number). Assumes nothing.
 use mathlib.Core.Path.{_≡_, refl, sym, ap, subst, _∙_}
 use Prim.Native.Nat.{ℕ, zero, suc, _+_, _-_, _%_, _^_, _≤_, _<_}
-use mathlib.Core.Bool.{Bool, true, false, _&&_, true≢false}
+use mathlib.Core.Bool.{Bool, true, false, _&&_, _||_, true≢false}
 use mathlib.Core.Option.{Option, none, some}
 use mathlib.Core.List.{List, [], _∷_, _++_}
-use mathlib.Core.Logic.{_⊎_, ⊎-elim}
 use native.Mathlib.Omega.{arith}
 use native.Mathlib.Nat.{not-suc-le-zero, le-of-suc-le-suc, mod-le}
 use lib.ListN.{length, getD, take, drop, set, length-set}
-use lib.Dec.{leb, ltb, lit<}
+use lib.Dec.{leb, ltb, eqb, lit<}
 use borrow.Author.Tests.{leb-true, le-leb, ltb-true, eqb-true, ne-eqb}
 use Rattle.memory.proofs.Tests.{both}
 use Rattle.anomaly.specs.Table.{isAnomaly, isRefusal}
-use Rattle.anomaly.proofs.Numbers.{either, in-range}
 use Rattle.op.specs.declared.Checked.{Checked}
 use Rattle.op.specs.declared.Counts.{Counts}
 use Rattle.op.specs.Reach.{checkOf}
@@ -30,29 +28,34 @@ use Rattle.program.proofs.Tests.{failing-cons}
 use Rattle.vm.proofs.Refusals.{failing-numbered, image-alone, call-numbered}
 use Rattle.vm.proofs.Upward.{go-next, go-halted, go-stop}
 use Rattle.vm.proofs.Kept.{GoodStep, step-good}
-use Rattle.vm.proofs.Runs.{runs-go, runs-past}
+use Rattle.vm.proofs.Runs.{entered-used, runs-go, runs-past}
 use Rattle.vm.specs.Loaded.{Checks, Returns}
 use Rattle.vm.proofs.Inside.{Inside, StepOk, step-ok}
 use Rattle.vm.proofs.Starting.{start-passes}
 
--- an end with these steps under the budget b: 0 to 8, and 5 only when the budget is completed
+-- an end with these steps under the budget b: 0, 5 or an anomaly's, and 5 only when the budget is completed
 pub record Listed (b e steps : ℕ) : Type 0 where
-  pub number : e ≤ 8
+  pub number : ((eqb e 0 || eqb e 5) || isAnomaly e) ≡ true
   pub within : steps ≤ b
   pub spends : e ≡ 5 → steps ≡ b
 
 listed-next : (b e steps : ℕ) → Listed b e steps → Listed (suc b) e (suc steps)
 listed-next b e steps h = let w = h .within in record { number = h .number; within = omega arith; spends = λ q. ap suc (h .spends q) }
 
+or-right : (a b : Bool) → b ≡ true → (a || b) ≡ true
+or-right true b h = refl
+or-right false b h = h
+
 stop-listed : (b e : ℕ) → isAnomaly e ≡ true → Listed b e 0
 stop-listed b e h =
-    ⊎-elim
-    (λ p. let r = in-range 1 4 e p in record { number = omega arith; within = omega arith; spends = λ q. absurd (omega arith) })
-    (λ p. let r = in-range 6 8 e p in record { number = omega arith; within = omega arith; spends = λ q. absurd (omega arith) })
-    (either (leb 1 e && leb e 4) (leb 6 e && leb e 8) h)
+    record {
+      number = or-right (eqb e 0 || eqb e 5) (isAnomaly e) h;
+      within = omega arith;
+      spends = λ q. absurd (true≢false (sym (subst (λ (z : ℕ). isAnomaly z ≡ true) q h)));
+    }
 
 nothing-done : (b : ℕ) → Listed b 0 0
-nothing-done b = record { number = omega arith; within = omega arith; spends = λ q. absurd (omega arith) }
+nothing-done b = record { number = refl; within = omega arith; spends = λ q. absurd (omega arith) }
 
 -- the answer of a run under the budget b
 abbrev pub RunAnswer : ℕ → Answer → Type 0
@@ -72,14 +75,14 @@ module _ (L : Sizes) (im : Image) (k : Checks im) where
   unfolding after go
   listed-suc b c (next d) p g o ih = rw (go-next L im b c d p) (listed-next b _ _ (ih d (g .1) o))
   listed-suc b c halted p g o ih = rw (go-halted L im b c p)
-      (record { number = omega arith; within = omega arith; spends = λ q. absurd (omega arith) })
-  listed-suc b c (stop e) p g o ih = rw (go-stop L im b c e p) (stop-listed (suc b) e o)
+      (record { number = refl; within = omega arith; spends = λ q. absurd (omega arith) })
+  listed-suc b c (stop e d) p g o ih = rw (go-stop L im b c d e p) (stop-listed (suc b) e o)
 
   pub go-listed : (b : ℕ) (c : Core) → GoListed b c
   unfolding go
-  go-listed zero c f i = record { number = omega arith; within = omega arith; spends = λ q. refl }
+  go-listed zero c f i = record { number = refl; within = omega arith; spends = λ q. refl }
   go-listed (suc b) c f i =
-      listed-suc b c (step L im c) refl (step-good L im c) (step-ok L im c k (fits-of L (used c) f) i) (go-listed b)
+      listed-suc b c (step L im c) refl (step-good L im c f) (step-ok L im c k (fits-of L (used c) f) i) (go-listed b)
 
 -- ---- what the tests of a run leave
 
@@ -138,9 +141,12 @@ module _ (im : Image) (b : ℕ) (m : Machine) (passed : failing (tests (run im b
   abbrev rest : List Test
   rest = test (framesBelong (length (im .code)) (m .state) (m .lent) && pagesBelong (m .state) (m .lent)) 9 ∷ []
 
+  abbrev pub lent-ok : Bool
+  lent-ok = framesOk (length (m .lent .frames)) && heapOk (m .state .gc .base) (length (m .lent .heap))
+
   -- 10, 11, 16, the words, and 9, each passed
   pub record Passed : Type 0 where
-    pub lent : (framesOk (length (m .lent .frames)) && heapOk (m .state .gc .base) (length (m .lent .heap))) ≡ true
+    pub lent : lent-ok ≡ true
     pub image : imageOk im ≡ true
     pub halts : endsInHalt (im .code) ≡ true
     pub targets : below (length (im .code)) (im .switches .entries) ≡ true
@@ -151,13 +157,12 @@ module _ (im : Image) (b : ℕ) (m : Machine) (passed : failing (tests (run im b
   pub all-passed : Passed
   unfolding tests testsBy imageTests
   all-passed =
-      let size = failing-cons (test
-      ((framesOk (length (m .lent .frames)) && heapOk (m .state .gc .base) (length (m .lent .heap))) && imageOk im) 10) _ passed in
+      let size = failing-cons (test (lent-ok && imageOk im) 10) _ passed in
       let halts = failing-cons (test _ 11) _ (size .1) in
       let targets = failing-cons (test _ 16) _ (halts .1) in
       let words = words-fine (counts im) (im .code) rest (targets .1) in
       let state = failing-cons (test _ 9) [] (words .1) in
-      let sizes = both (framesOk (length (m .lent .frames)) && heapOk (m .state .gc .base) (length (m .lent .heap))) (imageOk im) (size .0) in
+      let sizes = both lent-ok (imageOk im) (size .0) in
       let belongs = both (framesBelong (length (im .code)) (m .state) (m .lent)) (pagesBelong (m .state) (m .lent)) (state .0) in
       record { lent = sizes .0; image = sizes .1; halts = halts .0; targets = targets .0; words = words .0; frames = belongs .0; pages = belongs .1 }
 
@@ -180,7 +185,7 @@ module _ (im : Image) (b : ℕ) (m : Machine) (passed : failing (tests (run im b
   unfolding ran idle entered setFrames view
   ends-case last true e t =
       let c = entered (suc last) (view m) in
-      let fit = view-fits m c (length-set (view m .frames) 0 (root (suc last))) refl in
+      let fit = view-fits m c (entered-used (suc last) (view m)) in
       rw (runs-go (sizes (m .lent)) im b last (view m) t)
       (go-listed (sizes (m .lent)) im (checks (omega arith)) b c fit (from-inside last e (ltb-true _ _ t)))
   ends-case last false e t = rw (runs-past (sizes (m .lent)) im b last (view m) t) (nothing-done b)

@@ -45,14 +45,14 @@ pub apply-kept : (e : Effect) (c : Core) → KeptStep (c .memory) (apply e c)
 unfolding setPages setBytes stored8
 apply-kept e c =
     let same = kept (c .memory) in
-    apply-every (λ r l. Kept (c .memory) l) c same (λ dst v. same) (λ a v. record { slots = refl; names = refl; base = refl })
+    apply-every (λ r l. Kept (c .memory) l) c same (λ r dst v k. k) (λ a v. record { slots = refl; names = refl; base = refl })
     (λ dst kind n. record { slots = refl; names = refl; base = allocated-base _ kind n (c .memory .pages) }) e
 
 abbrev pub GoodStep : Sizes → Memory → Step → Type 0
 GoodStep n c x = Every (λ d. Kept c (d .memory) × (short n (used d) ≡ none)) x
 
-pub step-good : (n : Sizes) (im : Image) (c : Core) → GoodStep n (c .memory) (step n im c)
-step-good n im c = step-fits (λ d. Kept (c .memory) (d .memory)) n im c (λ e. apply-kept e c)
+pub step-good : (n : Sizes) (im : Image) (c : Core) → short n (used c) ≡ none → GoodStep n (c .memory) (step n im c)
+step-good n im c own = step-fits (λ r l. Kept (c .memory) l) n im c (kept (c .memory)) (λ e. apply-kept e c) own
 
 -- ---- a run
 
@@ -62,7 +62,7 @@ Good n c d = Kept (c .memory) (d .memory) × (short n (used d) ≡ none)
 pub go-good : (n : Sizes) (im : Image) (b : ℕ) (c : Core) → short n (used c) ≡ none → Good n c (go n im b c .core)
 go-good n im b c h =
     go-every (Good n c) n im (λ d k. every-map (Good n d) (Good n c) (λ e g. (kept-next (k .0) (g .0), g .1)) (step n im d)
-    (step-good n im d)) b c (kept (c .memory), h)
+    (step-good n im d (k .1))) b c (kept (c .memory), h)
 
 -- ---- a host call
 

@@ -15,9 +15,9 @@ use Rattle.gc.specs.Lent.{pageSize, Outcome, outcome, numbersOf}
 use Rattle.op.specs.declared.Checked.{Checked}
 use Rattle.vm.specs.declared.State.{State}
 use Rattle.program.specs.Image.{Image, test, imageOk, imageTests, failing, verdict}
-use Rattle.vm.specs.Machine.{Lent, Machine, done, refused, traced, withPages, withFrames, unset, framesOk, heapOk, firstMemory}
+use Rattle.vm.specs.Machine.{Lent, Machine, lendBegin, keepDepth, keepGc, done, refused, traced, withPages, withFrames, unset, framesOk, heapOk, firstMemory}
 use Rattle.vm.specs.Machine.{blank, begin, starts, buffersOk, start}
-use Rattle.vm.specs.Told.{lentOf, machineOf, startedOn}
+use Rattle.vm.specs.Told.{machineOf, startedOn}
 use Rattle.program.proofs.Tests.{failing-cons}
 use Rattle.vm.proofs.Refusals.{failing-numbered, image-alone}
 use Rattle.vm.proofs.Buffers.{frames-room, heap-room, heap-low}
@@ -26,8 +26,8 @@ use Rattle.vm.proofs.Ends.{refusal-numbered}
 
 -- ---- the first box granted, and frame 0
 
-module _ (base : ℕ) (frames heap slots spare : List ℕ) (r : Alloc) (x : List ℕ)
-    (e : outcome r x ≡ outcome (Alloc.At (base + 16) (numbersOf (firstMemory base .pages))) (over (firstMemory base .pages .bytes) heap)) where
+module _ (base : ℕ) (l : Lent) (r : Alloc) (x : List ℕ)
+    (e : outcome r x ≡ outcome (Alloc.At (base + 16) (numbersOf (firstMemory base .pages))) (over (firstMemory base .pages .bytes) (l .heap))) where
   pub never-refused : r ≡ Alloc.Refused → ⊥
   never-refused q =
       let a = ap (λ (o : Outcome). o .answer) e in
@@ -35,13 +35,12 @@ module _ (base : ℕ) (frames heap slots spare : List ℕ) (r : Alloc) (x : List
       absurd (omega arith)
 
   pub begun-with : (a : ℕ) (g : Gc) → r ≡ Alloc.At a g → (s : State) → ((l : Lent) → machineOf s l ≡ blank base l)
-      → machineOf (record { regs = s .regs; pc = s .pc; depth = 1; gc = g; strings = s .strings })
-      (lentOf (set frames 0 unset) x slots spare) ≡ begin base (lentOf frames heap slots spare)
+      → machineOf (keepGc g (keepDepth 1 s)) (lendBegin (set (l .frames) 0 unset) x l) ≡ begin base l
   unfolding begin withFrames withPages blank traced
   begun-with a g q s h =
       let answer = ap (λ (o : Outcome). o .answer) e in
       let n : g ≡ numbersOf (firstMemory base .pages) = cc in
-      let b : s ≡ blank base (lentOf frames heap slots spare) .state = ap (λ (m : Machine). m .state) (h (lentOf frames heap slots spare)) in
+      let b : s ≡ blank base l .state = ap (λ (m : Machine). m .state) (h l) in
       rw (b, n, ap (λ (o : Outcome). o .heap) e, over-first) refl
 
 -- ---- the tests

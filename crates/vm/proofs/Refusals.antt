@@ -8,7 +8,6 @@ use native.Mathlib.Omega.{arith}
 use lib.ListN.{length, take}
 use lib.Dec.{leb, ltb, eqb, lit≤}
 use borrow.Author.Tests.{le-leb, ne-eqb}
-use Rattle.string.specs.declared.table.StrTable.{StrTable}
 use Rattle.string.specs.Sound as Table
 use Rattle.gc.specs.declared.Gc.{Gc}
 use Rattle.gc.specs.Lent.{numbersOf}
@@ -22,9 +21,10 @@ use Rattle.vm.specs.declared.State.{State}
 use Rattle.vm.specs.Core.{Core, Memory, Sizes, used}
 use Rattle.program.specs.Image.{Image, Test, test, wordTest, wordTests, counts, imageTests, failing}
 use Rattle.vm.specs.Machine.{Lent, Machine, sizes, memoryOf, view, reset, putPc, putReg, allocate, option, intern, internSmall, Call}
-use Rattle.vm.specs.Machine.{run, setting, host, heapOk, returnsOk, framesBelong, pagesBelong, namesBelong, smallOk, Found, found, testsBy, tests}
+use Rattle.vm.specs.Machine.{stateOf, run, setting, host, framesOk, heapOk, slotsOk, returnsOk, framesBelong, pagesBelong, namesBelong, smallOk, Found, found, testsBy, tests}
 use Rattle.vm.specs.Core.{_⊑_, spent}
-use Rattle.vm.proofs.Fits.{fits-of}
+use Rattle.memory.proofs.Tests.{both}
+use Rattle.vm.proofs.Fits.{fits-of, Each, each-append, failing-each}
 use Rattle.vm.proofs.Holds.{Holds}
 
 -- ---- the clauses of 9, on the parts in use
@@ -46,12 +46,16 @@ module _ (n : Sizes) (c : Core) (m : Machine) (h : Holds n c m) where
   fit : used c ⊑ n
   fit = fits-of n (used c) (h .fits)
 
+  gc-is : m .state .gc ≡ numbersOf (c .memory .pages)
+  unfolding stateOf
+  gc-is = ap (λ (s : State). s .gc) (h .state)
+
   depth-fits : leb (m .state .depth) (length (m .lent .frames)) ≡ true
-  unfolding sizes used
+  unfolding sizes used stateOf
   depth-fits =
       let e : length (m .lent .frames) ≡ n .frames = ap (λ (z : Sizes). z .frames) (h .lent) in
       let k = fit .frames in
-      let d = h .depth in
+      let d : m .state .depth ≡ length (c .frames) = ap (λ (s : State). s .depth) (h .state) in
       le-leb (m .state .depth) (length (m .lent .frames)) (omega arith)
 
   frames-are : take (m .state .depth) (m .lent .frames) ≡ c .frames
@@ -67,17 +71,19 @@ module _ (n : Sizes) (c : Core) (m : Machine) (h : Holds n c m) where
   pages-same =
       let e : length (m .lent .heap) ≡ n .heap = ap (λ (z : Sizes). z .heap) (h .lent) in
       let k = fit .heap in
-      rw (h .gc) (sound-lent _ _ (omega arith))
+      rw gc-is (sound-lent _ _ (omega arith))
 
   slots-are : take (m .state .strings .active) (m .lent .slots) ≡ c .memory .slots
   unfolding view memoryOf
   slots-are = ap (λ (d : Core). d .memory .slots) (h .core)
 
   active-is : m .state .strings .active ≡ length (c .memory .slots)
-  active-is = ap (λ (t : StrTable). t .active) (h .strings)
+  unfolding stateOf
+  active-is = ap (λ (s : State). s .strings .active) (h .state)
 
   len-is : m .state .strings .len ≡ c .memory .names
-  len-is = ap (λ (t : StrTable). t .len) (h .strings)
+  unfolding stateOf
+  len-is = ap (λ (s : State). s .strings .len) (h .state)
 
   table-same : Table.soundOf (m .state .gc .base) (m .state .gc .pushed) (m .state .strings) (m .lent .slots) ≡ tableOn (c .memory)
   unfolding Table.soundOf Table.activeOk tableOn sizes used numbersOf
@@ -88,15 +94,21 @@ module _ (n : Sizes) (c : Core) (m : Machine) (h : Holds n c m) where
       ≡ true = le-leb (length (c .memory .slots)) (length (m .lent .slots)) (omega arith) in
       let self : leb (length (c .memory .slots)) (length (c .memory .slots))
       ≡ true = le-leb (length (c .memory .slots)) (length (c .memory .slots)) (omega arith) in
-      rw (slots-are, h .gc, active-is, len-is, within, self) refl
+      rw (slots-are, gc-is, active-is, len-is, within, self) refl
 
   names-same : namesBelong (m .state) (m .lent) ≡ (pagesOn (c .memory) && tableOn (c .memory))
   unfolding namesBelong
   names-same = ap₂ _&&_ pages-same table-same
 
-  base-legal : heapOk (m .state .gc .base) (length (m .lent .heap)) ≡ true
+  legal-frames : framesOk (length (m .lent .frames)) ≡ true
+  legal-frames = both _ _ (h .legal) .0
+
+  legal-heap : heapOk (m .state .gc .base) (length (m .lent .heap)) ≡ true
   unfolding numbersOf
-  base-legal = rw (h .gc) (h .heap-ok)
+  legal-heap = rw gc-is (both _ _ (both (framesOk (length (m .lent .frames))) _ (h .legal) .1) .0)
+
+  legal-slots : slotsOk (length (m .lent .slots)) (length (m .lent .spare)) ≡ true
+  legal-slots = both (heapOk (c .memory .pages .base) (length (m .lent .heap))) _ (both (framesOk (length (m .lent .frames))) _ (h .legal) .1) .1
 
 -- ---- all tests of a call
 
@@ -116,54 +128,49 @@ testsOn k c = testsBy k (foundOn c)
 
 pub tests-are : (n : Sizes) (k : Call) (c : Core) (m : Machine) → Holds n c m → tests k (m .state) (m .lent) ≡ testsOn k c
 unfolding tests testsBy testsOn
-tests-are n (run im b) c m h = rw (h .frames-ok, base-legal n c m h, frames-same n c m h, pages-same n c m h) refl
-tests-are n (setting reset) c m h = rw (h .frames-ok) refl
+tests-are n (run im b) c m h = rw (legal-frames n c m h, legal-heap n c m h, frames-same n c m h, pages-same n c m h) refl
+tests-are n (setting reset) c m h = rw (legal-frames n c m h) refl
 tests-are n (setting (putPc p)) c m h = refl
 tests-are n (setting (putReg r v)) c m h = refl
-tests-are n (host (allocate kind align z)) c m h = rw (base-legal n c m h, pages-same n c m h) refl
-tests-are n (host (option o)) c m h = rw (base-legal n c m h, pages-same n c m h) refl
-tests-are n (host (intern s)) c m h = rw (base-legal n c m h, h .slots-ok, names-same n c m h) refl
-tests-are n (host (internSmall z w)) c m h = rw (base-legal n c m h, h .slots-ok, names-same n c m h) refl
+tests-are n (host (allocate kind align z)) c m h = rw (legal-heap n c m h, pages-same n c m h) refl
+tests-are n (host (option o)) c m h = rw (legal-heap n c m h, pages-same n c m h) refl
+tests-are n (host (intern s)) c m h = rw (legal-heap n c m h, legal-slots n c m h, names-same n c m h) refl
+tests-are n (host (internSmall z w)) c m h = rw (legal-heap n c m h, legal-slots n c m h, names-same n c m h) refl
 
 -- ---- a test that fails refuses with a number from 9 to 17, and none of these is one of running out
 
-pub Numbered : List Test → Type 0
-Numbered [] = Unit {0}
-Numbered (t ∷ ts) = (t .passes ≡ false → (9 ≤ t .number) × (t .number ≤ 17)) × Numbered ts
+abbrev pub Refusing : ℕ → Type 0
+Refusing k = (9 ≤ k) × (k ≤ 17)
 
-numbered-append : (ts us : List Test) → Numbered ts → Numbered us → Numbered (ts ++ us)
-unfolding Numbered
-numbered-append [] us h k = k
-numbered-append (t ∷ ts) us h k = (h .0, numbered-append ts us (h .1) k)
+abbrev pub Numbered : List Test → Type 0
+Numbered ts = Each Refusing ts
 
-word-numbered : (n : Counts) (w : ℕ) (x : Checked) → checkOf n w ≡ x → wordTest x .passes ≡ false
-    → (9 ≤ wordTest x .number) × (wordTest x .number ≤ 17)
+word-numbered : (n : Counts) (w : ℕ) (x : Checked) → checkOf n w ≡ x → wordTest x .passes ≡ false → Refusing (wordTest x .number)
 unfolding wordTest
 word-numbered n w Checked.Fine e h = absurd (true≢false h)
 word-numbered n w (Checked.Refused k) e h = let r = check-refuses n w k e in (omega arith, omega arith)
 
 words-numbered : (n : Counts) (ws : List ℕ) → Numbered (wordTests n ws)
-unfolding wordTests Numbered
+unfolding wordTests
 words-numbered n [] = tt
 words-numbered n (w ∷ ws) = (word-numbered n w (checkOf n w) refl, words-numbered n ws)
 
 -- the tests of an image, with those that follow in a run
 pub image-numbered : (lent : Bool) (im : Image) (rest : List Test) → Numbered rest → Numbered (imageTests lent im ++ rest)
-unfolding imageTests Numbered
+unfolding imageTests
 image-numbered lent im rest h = (
   λ _. (lit≤ tt, lit≤ tt),
   (
     λ _. (lit≤ tt, lit≤ tt),
-    (λ _. (lit≤ tt, lit≤ tt), numbered-append (wordTests (counts im) (im .code)) rest (words-numbered (counts im) (im .code)) h),
+    (λ _. (lit≤ tt, lit≤ tt), each-append Refusing (wordTests (counts im) (im .code)) rest (words-numbered (counts im) (im .code)) h),
   ),
 )
 
 pub image-alone : (lent : Bool) (im : Image) → Numbered (imageTests lent im)
-unfolding Numbered
 image-alone lent im = subst Numbered (append-nil (imageTests lent im)) (image-numbered lent im [] tt)
 
 pub call-numbered : (k : Call) (f : Found) → Numbered (testsBy k f)
-unfolding testsBy Numbered
+unfolding testsBy
 call-numbered (run im b) f = image-numbered _ im _ (λ _. (lit≤ tt, lit≤ tt), tt)
 call-numbered (setting reset) f = (λ _. (lit≤ tt, lit≤ tt), tt)
 call-numbered (setting (putPc p)) f = tt
@@ -173,17 +180,10 @@ call-numbered (host (option o)) f = (λ _. (lit≤ tt, lit≤ tt), (λ _. (lit�
 call-numbered (host (intern n)) f = (λ _. (lit≤ tt, lit≤ tt), (λ _. (lit≤ tt, lit≤ tt), tt))
 call-numbered (host (internSmall n w)) f = (λ _. (lit≤ tt, lit≤ tt), (λ _. (lit≤ tt, lit≤ tt), (λ _. (lit≤ tt, lit≤ tt), tt)))
 
-pub failing-numbered : (ts : List Test) (k : ℕ) → Numbered ts → failing ts ≡ some k → (9 ≤ k) × (k ≤ 17)
-unfolding failing Numbered
-failing-numbered [] k u e = let z : _≡_ {A = ℕ} 0 1 = cc in absurd (omega arith)
-failing-numbered (t ∷ ts) k u e = by (t .passes) refl (failing-numbered ts k (u .1)) (unfold failing in e)
-  where
-    by : (b : Bool) → t .passes ≡ b → (failing ts ≡ some k → (9 ≤ k) × (k ≤ 17))
-        → (elim b [ true ↦ failing ts | false ↦ some (t .number) ]) ≡ some k → (9 ≤ k) × (k ≤ 17)
-    by true p ih q = ih q
-    by false p ih q = let z : t .number ≡ k = cc in rw (← z) (u .0 p)
+pub failing-numbered : (ts : List Test) (k : ℕ) → Numbered ts → failing ts ≡ some k → Refusing k
+failing-numbered ts k u e = failing-each Refusing ts k u e
 
-pub numbered-unspent : (k : ℕ) → (9 ≤ k) × (k ≤ 17) → spent k ≡ false
+pub numbered-unspent : (k : ℕ) → Refusing k → spent k ≡ false
 unfolding spent
 numbered-unspent k h = rw (
   ne-eqb k 2 (λ e. omega arith),
@@ -193,5 +193,5 @@ numbered-unspent k h = rw (
 ) refl
 
 pub run-unspent : (im : Image) (b : ℕ) (c : Core) (k : ℕ) → failing (testsOn (run im b) c) ≡ some k → spent k ≡ false
-unfolding testsOn testsBy Numbered
+unfolding testsOn testsBy
 run-unspent im b c k f = numbered-unspent k (failing-numbered _ k (image-numbered true im _ (λ _. (lit≤ tt, lit≤ tt), tt)) f)

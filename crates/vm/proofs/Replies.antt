@@ -16,24 +16,22 @@ use Rattle.gc.proofs.Blocks.{pushed-is}
 use Rattle.gc.proofs.Soundness as Soundness
 use Rattle.op.specs.Layout.{isAlignment}
 use Rattle.vm.specs.declared.State.{State}
-use Rattle.program.specs.Image.{failing}
-use Rattle.vm.specs.Core.{used, lacking, short, setMemory, setPages, setBytes}
+use Rattle.program.specs.Image.{test, failing}
+use Rattle.vm.specs.Core.{used, short, setMemory, setPages, setBytes}
 use Rattle.vm.specs.Names.{Given, asGiven, allocates, filled, boxed, optional}
-use Rattle.vm.specs.Machine.{Lent, Machine, sizes, memoryOf, view, Called, value, done, refused, setting, reset, putPc, putReg, host}
-use Rattle.vm.specs.Machine.{Host, allocate, option, unset, traced, withPages, withFrames, withRegs, withSetting, hosted, hostLeaves}
-use Rattle.vm.specs.Machine.{granted, hostCall, act, framesOk, heapOk, pagesBelong, testsBy, tests, tried, perform}
-use Rattle.vm.specs.Told.{lentOf, machineOf, saidOf, told, allocatedIn, blockOf, memoryIn}
-use Rattle.vm.proofs.Fits.{take-fits}
+use Rattle.vm.specs.Machine.{Lent, Machine, sizes, lendFrames, lendHeap, keepRegs, keepPc, keepDepth, memoryOf, view, Called, value, done}
+use Rattle.vm.specs.Machine.{refused, setting, reset, putPc, putReg, host, Host, allocate, option, unset, traced, withPages, withFrames}
+use Rattle.vm.specs.Machine.{withRegs, withSetting, hosted, hostLeaves, granted, hostCall, act, framesOk, heapOk, pagesBelong, testsBy, tests}
+use Rattle.vm.specs.Machine.{tried, perform}
+use Rattle.vm.specs.Told.{machineOf, saidOf, told, allocatedIn, blockOf, memoryIn}
+use Rattle.vm.proofs.Fits.{take-fits, view-within, short-heap}
 use Rattle.vm.proofs.Buffers.{heap-low}
 
 abbrev refuses : ℕ → State → Lent → Called
 refuses e s l = record { answer = refused e; machine = machineOf s l }
 
-abbrev state : State → List ℕ → ℕ → ℕ → State
-state s regs pc depth = record { regs = regs; pc = pc; depth = depth; gc = s .gc; strings = s .strings }
-
 pub pc-put : (s : State) (l : Lent) (p : ℕ)
-    → record { answer = done; machine = machineOf (state s (s .regs) p (s .depth)) l } ≡ perform (setting (putPc p)) (machineOf s l)
+    → record { answer = done; machine = machineOf (keepPc p s) l } ≡ perform (setting (putPc p)) (machineOf s l)
 unfolding perform tests testsBy failing tried act withSetting withRegs
 pc-put s l p = refl
 
@@ -42,7 +40,7 @@ module _ (s : State) (l : Lent) (r v : ℕ) where
   unfolding perform tests testsBy failing tried
   register-refused h = rw (le-ltb r 32 h, failing, tried) refl
 
-  pub register-put : r < 32 → record { answer = done; machine = machineOf (state s (set (s .regs) r v) (s .pc) (s .depth)) l }
+  pub register-put : r < 32 → record { answer = done; machine = machineOf (keepRegs (set (s .regs) r v) s) l }
       ≡ perform (setting (putReg r v)) (machineOf s l)
   unfolding perform tests testsBy failing tried act withSetting withRegs
   register-put h = rw (lt-ltb r 32 h, failing, tried) refl
@@ -52,58 +50,51 @@ unfolding over
 over-first [] v = refl
 over-first (x ∷ xs) v = refl
 
-module _ (s : State) (frames heap slots spare : List ℕ) where
-  abbrev before : Lent
-  before = lentOf frames heap slots spare
-
-  pub reset-refused : framesOk (length frames) ≡ false → refuses 10 s before ≡ perform (setting reset) (machineOf s before)
+module _ (s : State) (l : Lent) where
+  pub reset-refused : framesOk (length (l .frames)) ≡ false → refuses 10 s l ≡ perform (setting reset) (machineOf s l)
   unfolding perform tests testsBy failing tried
   reset-refused e = rw (e, failing, tried) refl
 
-  pub reset-done : framesOk (length frames) ≡ true
-      → record { answer = done; machine = machineOf (state s (s .regs) unset 1) (lentOf (set frames 0 unset) heap slots spare) }
-      ≡ perform (setting reset) (machineOf s before)
+  pub reset-done : framesOk (length (l .frames)) ≡ true
+      → record { answer = done; machine = machineOf (keepPc unset (keepDepth 1 s)) (lendFrames (set (l .frames) 0 unset) l) }
+      ≡ perform (setting reset) (machineOf s l)
   unfolding perform tests testsBy failing tried act withSetting withRegs withFrames traced
   reset-done e = rw (e, failing, tried, over-first) refl
 
 -- ---- allocating
 
-module _ (s : State) (frames heap slots spare : List ℕ) (kind align n : ℕ) where
-  abbrev lent : Lent
-  lent = lentOf frames heap slots spare
-
+module _ (s : State) (l : Lent) (kind align n : ℕ) where
   abbrev call : Called
-  call = perform (host (allocate kind align n)) (machineOf s lent)
+  call = perform (host (allocate kind align n)) (machineOf s l)
 
-  pub allocate-10 : heapOk (s .gc .base) (length heap) ≡ false → refuses 10 s lent ≡ call
+  pub allocate-10 : heapOk (s .gc .base) (length (l .heap)) ≡ false → refuses 10 s l ≡ call
   unfolding perform tests testsBy failing tried
   allocate-10 e = rw (e, failing, tried) refl
 
-  module _ (heap-fine : heapOk (s .gc .base) (length heap) ≡ true) where
-    pub allocate-13 : (ltb kind 4 && isAlignment align) ≡ false → refuses 13 s lent ≡ call
+  module _ (heap-fine : heapOk (s .gc .base) (length (l .heap)) ≡ true) where
+    pub allocate-13 : (ltb kind 4 && isAlignment align) ≡ false → refuses 13 s l ≡ call
     unfolding perform tests testsBy failing tried
     allocate-13 e = rw (heap-fine, e, failing, tried) refl
 
     module _ (operands : (ltb kind 4 && isAlignment align) ≡ true) where
-      pub allocate-9 : Heap.soundOf (s .gc) (length heap) ≡ false → refuses 9 s lent ≡ call
+      pub allocate-9 : Heap.soundOf (s .gc) (length (l .heap)) ≡ false → refuses 9 s l ≡ call
       unfolding perform tests testsBy failing tried pagesBelong
       allocate-9 e = rw (heap-fine, operands, e, failing, tried) refl
 
-      pub allocate-acts : Heap.soundOf (s .gc) (length heap) ≡ true
-          → hostCall (allocate kind align n) (machineOf s lent) (hosted (allocate kind align n) (memoryOf (machineOf s lent))) ≡ call
+      pub allocate-acts : Heap.soundOf (s .gc) (length (l .heap)) ≡ true
+          → hostCall (allocate kind align n) (machineOf s l) (hosted (allocate kind align n) (memoryOf (machineOf s l))) ≡ call
       unfolding perform tests testsBy failing tried pagesBelong act
       allocate-acts e = rw (heap-fine, operands, e, failing, tried) refl
 
 -- only the heap can lack what new pages need
-module _ (s : State) (frames heap slots spare : List ℕ) (p : Pages) where
+module _ (s : State) (l : Lent) (p : Pages) where
   abbrev machine : Machine
-  machine = machineOf s (lentOf frames heap slots spare)
+  machine = machineOf s l
 
-  pub pages-short : short (sizes (machine .lent)) (used (setMemory (setPages p (memoryOf machine)) (view machine)))
-      ≡ lacking true true (leb (length (p .bytes)) (length heap))
-  unfolding short used sizes view memoryOf setMemory setPages
-  pages-short =
-      rw (le-leb _ _ (take-fits (s .depth) frames), le-leb _ _ (take-fits (s .strings .active) slots)) refl
+  pub pages-short : short (sizes l) (used (setMemory (setPages p (memoryOf machine)) (view machine)))
+      ≡ failing (test (leb (length (p .bytes)) (length (l .heap))) 2 ∷ [])
+  unfolding used sizes view memoryOf setMemory setPages
+  pages-short = short-heap (sizes l) (used (view machine)) (view-within machine) (length (p .bytes))
 
   -- a call that leaves them, with the value a
   module _ (k : Host) (leaves : hostLeaves k machine (setPages p (memoryOf machine)) ≡ withPages p machine) (a : ℕ) where
@@ -111,76 +102,71 @@ module _ (s : State) (frames heap slots spare : List ℕ) (p : Pages) where
     given = record { value = a; memory = setPages p (memoryOf machine) }
 
     told-case : (t : Bool)
-        → told (allocatedIn s (Heap.granted t (record { address = a; pages = p }) heap .answer))
-        (lentOf frames (Heap.granted t (record { address = a; pages = p }) heap .heap) slots spare)
-        ≡ granted (lacking true true t) k machine given
-    unfolding Heap.granted granted lacking withPages saidOf
+        → told (allocatedIn s (Heap.granted t (record { address = a; pages = p }) (l .heap) .answer))
+        (lendHeap (Heap.granted t (record { address = a; pages = p }) (l .heap) .heap) l)
+        ≡ granted (failing (test t 2 ∷ [])) k machine given
+    unfolding Heap.granted granted failing withPages saidOf
     told-case true = rw leaves refl
     told-case false = refl
 
-    pub pages-told : (x : Outcome) → x ≡ Heap.grantedIn (record { address = a; pages = p }) heap
-        → told (allocatedIn s (x .answer)) (lentOf frames (x .heap) slots spare) ≡ hostCall k machine given
+    pub pages-told : (x : Outcome) → x ≡ Heap.grantedIn (record { address = a; pages = p }) (l .heap)
+        → told (allocatedIn s (x .answer)) (lendHeap (x .heap) l) ≡ hostCall k machine given
     unfolding hostCall Heap.fits
-    pages-told x e = rw (e, pages-short) (told-case (leb (length (p .bytes)) (length heap)))
+    pages-told x e = rw (e, pages-short) (told-case (leb (length (p .bytes)) (length (l .heap))))
 
-module _ (s : State) (frames heap slots spare : List ℕ) (kind align n : ℕ) where
-  pub allocate-told : heapOk (s .gc .base) (length heap) ≡ true → (ltb kind 4 && isAlignment align) ≡ true → Heap.soundOf (s .gc) (length heap) ≡ true
-      → (x : Outcome) → x ≡ Heap.allocOf (s .gc) kind n heap
-      → told (allocatedIn s (x .answer)) (lentOf frames (x .heap) slots spare)
-      ≡ perform (host (allocate kind align n)) (machineOf s (lentOf frames heap slots spare))
+module _ (s : State) (l : Lent) (kind align n : ℕ) where
+  pub allocate-told : heapOk (s .gc .base) (length (l .heap)) ≡ true → (ltb kind 4 && isAlignment align) ≡ true
+      → Heap.soundOf (s .gc) (length (l .heap)) ≡ true
+      → (x : Outcome) → x ≡ Heap.allocOf (s .gc) kind n (l .heap)
+      → told (allocatedIn s (x .answer)) (lendHeap (x .heap) l) ≡ perform (host (allocate kind align n)) (machineOf s l)
   unfolding Heap.allocOf hosted allocates asGiven hostLeaves memoryOf setPages
   allocate-told h o b x e =
-      pages-told s frames heap slots spare (allocated pageSize kind n (pagesOf (s .gc) heap) .pages) (allocate kind align n) refl
-      (allocated pageSize kind n (pagesOf (s .gc) heap) .address) x e
-      ∙ allocate-acts s frames heap slots spare kind align n h o b
+      pages-told s l (allocated pageSize kind n (pagesOf (s .gc) (l .heap)) .pages) (allocate kind align n) refl
+      (allocated pageSize kind n (pagesOf (s .gc) (l .heap)) .address) x e
+      ∙ allocate-acts s l kind align n h o b
 
 -- ---- options
 
-module _ (s : State) (frames heap slots spare : List ℕ) (o : Option ℕ) where
-  abbrev lent′ : Lent
-  lent′ = lentOf frames heap slots spare
-
-  pub option-10 : heapOk (s .gc .base) (length heap) ≡ false → refuses 10 s lent′ ≡ perform (host (option o)) (machineOf s lent′)
+module _ (s : State) (l : Lent) (o : Option ℕ) where
+  pub option-10 : heapOk (s .gc .base) (length (l .heap)) ≡ false → refuses 10 s l ≡ perform (host (option o)) (machineOf s l)
   unfolding perform tests testsBy failing tried
   option-10 e = rw (e, failing, tried) refl
 
-  module _ (heap-fine : heapOk (s .gc .base) (length heap) ≡ true) where
-    pub option-9 : Heap.soundOf (s .gc) (length heap) ≡ false → refuses 9 s lent′ ≡ perform (host (option o)) (machineOf s lent′)
+  module _ (heap-fine : heapOk (s .gc .base) (length (l .heap)) ≡ true) where
+    pub option-9 : Heap.soundOf (s .gc) (length (l .heap)) ≡ false → refuses 9 s l ≡ perform (host (option o)) (machineOf s l)
     unfolding perform tests testsBy failing tried pagesBelong
     option-9 e = rw (heap-fine, e, failing, tried) refl
 
-    pub option-acts : Heap.soundOf (s .gc) (length heap) ≡ true
-        → hostCall (option o) (machineOf s lent′) (hosted (option o) (memoryOf (machineOf s lent′))) ≡ perform (host (option o)) (machineOf s lent′)
+    pub option-acts : Heap.soundOf (s .gc) (length (l .heap)) ≡ true
+        → hostCall (option o) (machineOf s l) (hosted (option o) (memoryOf (machineOf s l))) ≡ perform (host (option o)) (machineOf s l)
     unfolding perform tests testsBy failing tried pagesBelong act
     option-acts e = rw (heap-fine, e, failing, tried) refl
 
-module _ (s : State) (frames heap slots spare : List ℕ) (heap-fine : heapOk (s .gc .base) (length heap) ≡ true)
-    (sound : Heap.soundOf (s .gc) (length heap) ≡ true) where
+module _ (s : State) (l : Lent) (heap-fine : heapOk (s .gc .base) (length (l .heap)) ≡ true)
+    (sound : Heap.soundOf (s .gc) (length (l .heap)) ≡ true) where
   abbrev held : Machine
-  held = machineOf s (lentOf frames heap slots spare)
+  held = machineOf s l
 
-  pub option-some : (v : ℕ) (x : Outcome) → x ≡ Heap.grantedIn (blockOf (boxed 1 v (memoryIn (s .gc) heap))) heap
-      → told (allocatedIn s (x .answer)) (lentOf frames (x .heap) slots spare) ≡ perform (host (option (some v))) held
+  pub option-some : (v : ℕ) (x : Outcome) → x ≡ Heap.grantedIn (blockOf (boxed 1 v (memoryIn (s .gc) (l .heap)))) (l .heap)
+      → told (allocatedIn s (x .answer)) (lendHeap (x .heap) l) ≡ perform (host (option (some v))) held
   unfolding hosted optional boxed filled hostLeaves memoryOf setPages setBytes
   option-some v x e =
-      pages-told s frames heap slots spare (blockOf (boxed 1 v (memoryIn (s .gc) heap)) .pages) (option (some v)) refl
-      (blockOf (boxed 1 v (memoryIn (s .gc) heap)) .address) x e
-      ∙ option-acts s frames heap slots spare (some v) heap-fine sound
+      pages-told s l (blockOf (boxed 1 v (memoryIn (s .gc) (l .heap))) .pages) (option (some v)) refl
+      (blockOf (boxed 1 v (memoryIn (s .gc) (l .heap))) .address) x e
+      ∙ option-acts s l (some v) heap-fine sound
 
   -- pages laid over themselves
-  same-pages : withPages (pagesOf (s .gc) heap) held ≡ held
+  same-pages : withPages (pagesOf (s .gc) (l .heap)) held ≡ held
   unfolding withPages pagesOf Heap.numbersOf
   same-pages =
-      let b = Soundness.sound (s .gc) heap (heap-low _ _ heap-fine) sound in
-      rw (over-take, pushed-is (s .gc) heap b) refl
+      let b = Soundness.sound (s .gc) (l .heap) (heap-low _ _ heap-fine) sound in
+      rw (over-take, pushed-is (s .gc) (l .heap) b) refl
 
   pub option-none : record { answer = value (s .gc .base + 16); machine = held } ≡ perform (host (option none)) held
-  unfolding hosted optional hostCall granted lacking hostLeaves memoryOf setPages pagesOf
+  unfolding hosted optional hostCall granted failing hostLeaves memoryOf setPages pagesOf
   option-none =
       sym (rw (
-        pages-short s frames heap slots spare (pagesOf (s .gc) heap),
-        le-leb _ _ (take-fits (s .gc .pushed) heap),
-        lacking,
-        granted,
+        pages-short s l (pagesOf (s .gc) (l .heap)),
+        le-leb _ _ (take-fits (s .gc .pushed) (l .heap)),
       ) (ap (λ (m : Machine). record { answer = value (s .gc .base + 16); machine = m }) same-pages))
-      ∙ option-acts s frames heap slots spare none heap-fine sound
+      ∙ option-acts s l none heap-fine sound

@@ -10,6 +10,7 @@ use Rattle.program.specs.Image.{Image}
 use Rattle.vm.specs.Run.{go, root, entered, stored}
 use Rattle.vm.specs.Machine.{Answer, ended, value, done, refused, ranOut, Acted, ran, idle, runs}
 use Rattle.vm.proofs.Upward.{cutOff, up}
+use Rattle.vm.proofs.Every.{go-left}
 use Rattle.vm.proofs.Kept.{kept, Good, go-good}
 
 stored-back : (e p : ℕ) (c : Core) → setPc (c .pc) (stored e p c) ≡ c
@@ -20,17 +21,17 @@ stored-good : (n : Sizes) (c d : Core) (e p : ℕ) → Good n c d → Good n c (
 unfolding stored setPc used
 stored-good n c d e p g = elim (eqb e 0 || eqb e 5) as (λ t. Good n c (elim t [ true ↦ d | false ↦ setPc p d ])) [ true ↦ g | false ↦ g ]
 
-entered-used : (k : ℕ) (c : Core) → used (entered k c) ≡ used c
+pub entered-used : (k : ℕ) (c : Core) → used (entered k c) ≡ used c
 unfolding entered setFrames used
 entered-used k c = rw (length-set (c .frames) 0 (root k)) refl
 
 pub runs-go : (n : Sizes) (im : Image) (b k : ℕ) (c : Core) → ltb (c .pc) (suc k) ≡ true
-    → runs n im b (suc k) c ≡ ran (suc k) (c .pc) (go n im b (entered (suc k) c))
+    → runs n im b (suc k) c ≡ ran (suc k) c (go n im b (entered (suc k) c))
 unfolding runs
 runs-go n im b k c f = rw (f, runs) refl
 
 pub runs-past : (n : Sizes) (im : Image) (b k : ℕ) (c : Core) → ltb (c .pc) (suc k) ≡ false
-    → runs n im b (suc k) c ≡ ran (suc k) (c .pc) (idle (entered (suc k) c))
+    → runs n im b (suc k) c ≡ ran (suc k) c (idle (entered (suc k) c))
 unfolding runs
 runs-past n im b k c f = rw (f, runs) refl
 
@@ -58,9 +59,13 @@ runs-good n im b (suc k) c h = runs-case n im b k c (ltb (c .pc) (suc k)) refl h
 
 -- what the larger does with a run that did not run out on the smaller, and with one that did
 module _ (S L : Sizes) (le : S ⊑ L) where
-  -- the smaller's run answered a and left d; the larger, given the steps completed, answers 5 there and leaves the same
+  -- an end with the pc p has left d, and the larger stands at x: the same but for the stored pc
+  pub record CutCore (p : ℕ) (x d : Core) : Type 0 where
+    pub same : x ≡ setPc p d
+
+  -- the smaller's run answered a and left d; the larger, given the steps completed, answers 5 there
   abbrev pub CutOn : Image → ℕ → Core → Core → Answer → Type 0
-  CutOn im k c d (ended e p n) = (runs L im n k c .answer ≡ ended 5 p n) × (runs L im n k c .core ≡ setPc p d)
+  CutOn im k c d (ended e p n) = (runs L im n k c .answer ≡ ended 5 p n) × CutCore p (runs L im n k c .core) d
   CutOn im k c d (value v) = ⊥
   CutOn im k c d done = ⊥
   CutOn im k c d (refused e) = ⊥
@@ -77,7 +82,8 @@ module _ (S L : Sizes) (le : S ⊑ L) where
       let r = up S L le im b m d in
       rw (runs-go S im b k c q, runs-go L im (b + m) k c q) (
         λ h. rw (r .0 h) refl,
-        λ h. rw (runs-go L im (go S im b d .steps) k c q, r .1 h) (refl, sym (stored-back (go S im b d .ending) (c .pc) (go S im b d .core))),
+        λ h. rw (runs-go L im (go S im b d .steps) k c q, r .1 h, ← (go-left S im b d))
+            (refl, record { same = sym (stored-back (go S im b d .ending) (c .pc) (go S im b d .core)) }),
       )
 
   pub runs-up : (im : Image) (b m k : ℕ) (c : Core) → Upon im k c (runs S im b k c) (runs L im (b + m) k c)

@@ -1,6 +1,6 @@
 -- A start leaves a machine that holds the same core, whatever was lent, and a run of its image is not refused. Assumes nothing.
 use mathlib.Core.Path.{_≡_, refl, _∙_}
-use Prim.Native.Nat.{ℕ, zero, suc, _≤_, zero-le}
+use Prim.Native.Nat.{ℕ, zero, suc, _≤_}
 use mathlib.Core.Bool.{true, _&&_}
 use mathlib.Core.Option.{Option, none, some}
 use mathlib.Core.List.{[], _∷_}
@@ -13,9 +13,9 @@ use Rattle.gc.specs.Lent as Heap
 use Rattle.vm.specs.Core.{Core, used, setFrames, setMemory, setPages, setBytes}
 use Rattle.program.specs.Image.{Image, test, imageOk, below, imageTests, failing}
 use Rattle.vm.specs.Names.{boxed, filled}
-use Rattle.vm.specs.Machine.{Lent, Machine, sizes, memoryOf, view, framesOk, heapOk, slotsOk, unset, firstPage, firstMemory, blank, begin}
+use Rattle.vm.specs.Machine.{Lent, Machine, sizes, memoryOf, view, stateOf, framesOk, heapOk, unset, firstPage, firstMemory, blank, begin}
 use Rattle.vm.specs.Machine.{starts, buffersOk, start, begun, run, returnsOk, testsBy, tests}
-use Rattle.vm.proofs.Fits.{none-of}
+use Rattle.vm.proofs.Fits.{view-fits}
 use Rattle.vm.proofs.Kept.{boxed-kept}
 use Rattle.vm.proofs.Holds.{Holds, holds-pages, holds-frames}
 use Rattle.program.proofs.Tests.{failing-cons, failing-later}
@@ -37,21 +37,10 @@ empty base = record {
   memory = record { pages = record { base = base; bytes = []; last = 0; len = 0 }; slots = []; names = 0 };
 }
 
-blank-holds : (base : ℕ) (l : Lent) → framesOk (length (l .frames)) ≡ true → heapOk base (length (l .heap)) ≡ true
-    → slotsOk (length (l .slots)) (length (l .spare)) ≡ true → Holds (sizes l) (empty base) (blank base l)
-unfolding empty blank view memoryOf pagesOf numbersOf used
-blank-holds base l f h s =
-    record {
-      lent = refl;
-      frames-ok = f;
-      heap-ok = h;
-      slots-ok = s;
-      core = refl;
-      depth = refl;
-      gc = refl;
-      strings = refl;
-      fits = none-of (sizes l) _ (record { frames = zero-le; heap = zero-le; slots = zero-le });
-    }
+blank-holds : (base : ℕ) (l : Lent) → buffersOk base l ≡ true → Holds (sizes l) (empty base) (blank base l)
+unfolding empty blank view memoryOf pagesOf stateOf numbersOf used
+blank-holds base l legal =
+    record { lent = refl; legal = legal; core = refl; state = refl; fits = view-fits (blank base l) (empty base) refl }
 
 -- ---- page 0 and frame 0
 
@@ -67,15 +56,15 @@ first-length base = rw (length-write, length-write) refl
 pub first : ℕ → Core
 first base = setFrames (unset ∷ []) (setMemory (setPages (firstMemory base .pages) (empty base .memory)) (empty base))
 
-begin-holds : (base : ℕ) (l : Lent) → framesOk (length (l .frames)) ≡ true → heapOk base (length (l .heap)) ≡ true
-    → slotsOk (length (l .slots)) (length (l .spare)) ≡ true → Holds (sizes l) (first base) (begin base l)
+begin-holds : (base : ℕ) (l : Lent) → buffersOk base l ≡ true → Holds (sizes l) (first base) (begin base l)
 unfolding begin first sizes
-begin-holds base l f h s =
+begin-holds base l legal =
     let n = sizes l in
     let p = firstMemory base .pages in
-    let pages = holds-pages n (empty base) (blank base l) (blank-holds base l f h s) p (unfold empty in first-base base)
-    (rw first-length (heap-room base _ h)) in
-    holds-frames n _ _ pages [] (unset ∷ []) (frames-room _ f)
+    let heap = both (heapOk base (length (l .heap))) _ (both (framesOk (length (l .frames))) _ legal .1) .0 in
+    let pages = holds-pages n (empty base) (blank base l) (blank-holds base l legal) p (unfold empty in first-base base)
+    (rw first-length (heap-room base _ heap)) in
+    holds-frames n _ _ pages [] (unset ∷ []) (frames-room _ (both (framesOk (length (l .frames))) _ legal .0))
 
 -- a start that is not refused
 pub record Begun (base : ℕ) (l : Lent) (m : Machine) : Type 0 where
@@ -87,9 +76,7 @@ unfolding start imageTests sizes
 start-holds im base l m e =
     let q = starts-none _ base l m e in
     let lent = both (buffersOk base l) _ (failing-cons (test (buffersOk base l && imageOk im) 10) _ (q .0) .0) .0 in
-    let f = both _ _ lent in
-    let hs = both _ _ (f .1) in
-    record { room = frames-room _ (f .0); holds = rw (q .1) at (begin-holds base l (f .0) (hs .0) (hs .1)) }
+    record { room = frames-room _ (both (framesOk (length (l .frames))) _ lent .0); holds = rw (q .1) at (begin-holds base l lent) }
 
 -- ---- the tests of a run of the image of the start
 

@@ -5,12 +5,13 @@
 -- `view`) and lays it back (`withPages` ..), and where `limited` (`Run`) and `granted` (`Machine`) hold it to the sizes: mistakes there that
 -- would break demand 3 are must-fail edits.
 use Prim.Native.Nat.{ℕ, _≤_}
-use mathlib.Core.Bool.{Bool, true, false, _||_}
-use mathlib.Core.Option.{Option, none, some}
-use mathlib.Core.List.{List}
+use mathlib.Core.Bool.{Bool, _||_}
+use mathlib.Core.Option.{Option}
+use mathlib.Core.List.{List, [], _∷_}
 use lib.ListN.{length, set}
 use lib.Dec.{leb, eqb}
 use Rattle.gc.specs.Pages.{Pages}
+use Rattle.program.specs.Image.{Test, test, failing}
 
 -- what programs and host calls allocate in: the pushed pages, the active slots, the count of names
 pub record Memory : Type 0 where
@@ -34,16 +35,18 @@ pub record Sizes : Type 0 where
 unfoldable pub used : Core → Sizes
 used c = record { frames = length (c .frames); heap = length (c .memory .pages .bytes); slots = length (c .memory .slots) }
 
--- the number with which a use that does not fit what is lent ends: 3, 'depth equals frames'; 18, 'table must grow past the slots
--- lent'; 2, 'allocation refused'. Interning gives 18 before 2
-unfoldable pub lacking : Bool → Bool → Bool → Option ℕ
-lacking false slots heap = some 3
-lacking true false heap = some 18
-lacking true true false = some 2
-lacking true true true = none
+-- what a use needs of each size, in the order in which it is refused: 3, 'depth equals frames'; 18, 'table must grow past the slots lent'; 2,
+-- 'allocation refused'. Interning gives 18 before 2
+unfoldable pub needs : Sizes → Sizes → List Test
+needs lent need =
+    test (leb (need .frames) (lent .frames)) 3
+    ∷ test (leb (need .slots) (lent .slots)) 18
+    ∷ test (leb (need .heap) (lent .heap)) 2
+    ∷ []
 
+-- the number with which a use that does not fit what is lent ends
 unfoldable pub short : Sizes → Sizes → Option ℕ
-short lent need = lacking (leb (need .frames) (lent .frames)) (leb (need .slots) (lent .slots)) (leb (need .heap) (lent .heap))
+short lent need = failing (needs lent need)
 
 -- the numbers of running out: an allocation refused, no frame, the budget completed, no slots
 unfoldable pub spent : ℕ → Bool
@@ -56,10 +59,19 @@ pub record _⊑_ (a b : Sizes) : Type 0 where
   pub heap : a .heap ≤ b .heap
   pub slots : a .slots ≤ b .slots
 
--- ---- a core with one part changed
+-- ---- with one part changed: each setter names every field of its record, and nothing else does
 
-unfoldable pub setReg : ℕ → ℕ → Core → Core
-setReg r v c = record { regs = set (c .regs) r v; pc = c .pc; frames = c .frames; memory = c .memory }
+abbrev pub needFrames : ℕ → Sizes → Sizes
+needFrames n u = record { frames = n; heap = u .heap; slots = u .slots }
+
+abbrev pub needHeap : ℕ → Sizes → Sizes
+needHeap n u = record { frames = u .frames; heap = n; slots = u .slots }
+
+abbrev pub needSlots : ℕ → Sizes → Sizes
+needSlots n u = record { frames = u .frames; heap = u .heap; slots = n }
+
+unfoldable pub setRegs : List ℕ → Core → Core
+setRegs r c = record { regs = r; pc = c .pc; frames = c .frames; memory = c .memory }
 
 unfoldable pub setPc : ℕ → Core → Core
 setPc p c = record { regs = c .regs; pc = p; frames = c .frames; memory = c .memory }
@@ -69,6 +81,9 @@ setFrames f c = record { regs = c .regs; pc = c .pc; frames = f; memory = c .mem
 
 unfoldable pub setMemory : Memory → Core → Core
 setMemory l c = record { regs = c .regs; pc = c .pc; frames = c .frames; memory = l }
+
+abbrev pub setReg : ℕ → ℕ → Core → Core
+setReg r v c = setRegs (set (c .regs) r v) c
 
 unfoldable pub setPages : Pages → Memory → Memory
 setPages p l = record { pages = p; slots = l .slots; names = l .names }

@@ -13,10 +13,12 @@ use Rattle.gc.specs.Pages.{Pages}
 use Rattle.gc.specs.Lent.{pageSize, pagesOf, numbersOf}
 use Rattle.gc.specs.Lent as Heap
 use Rattle.op.specs.Layout.{isAlignment}
+use Rattle.string.specs.declared.table.StrTable.{StrTable}
+use Rattle.gc.specs.declared.Gc.{Gc}
 use Rattle.vm.specs.declared.State.{State}
-use Rattle.vm.specs.Core.{Core, Memory, Sizes, used, short, spent, setMemory}
+use Rattle.vm.specs.Core.{Core, Memory, Sizes, used, short, spent, setFrames, setMemory}
 use Rattle.program.specs.Image.{Image, Test, test, below, imageTests, failing}
-use Rattle.vm.specs.Run.{Ran, go, root, entered, stored}
+use Rattle.vm.specs.Run.{Ran, ends, go, root, entered, stored}
 use Rattle.vm.specs.Names.{Given, allocates, boxed, optional, interned}
 
 -- ---- the state and the lent buffers
@@ -34,7 +36,50 @@ pub record Machine : Type 0 where
 unfoldable pub sizes : Lent → Sizes
 sizes l = record { frames = length (l .frames); heap = length (l .heap); slots = length (l .slots) }
 
--- the core of a machine: of each buffer the part in use
+-- ---- with one part changed: each setter names every field of its record, and nothing else does
+
+abbrev pub lendFrames : List ℕ → Lent → Lent
+lendFrames x l = record { frames = x; heap = l .heap; slots = l .slots; spare = l .spare }
+
+abbrev pub lendHeap : List ℕ → Lent → Lent
+lendHeap x l = record { frames = l .frames; heap = x; slots = l .slots; spare = l .spare }
+
+abbrev pub lendSlots : List ℕ → Lent → Lent
+lendSlots x l = record { frames = l .frames; heap = l .heap; slots = x; spare = l .spare }
+
+abbrev pub lendSpare : List ℕ → Lent → Lent
+lendSpare x l = record { frames = l .frames; heap = l .heap; slots = l .slots; spare = x }
+
+-- what a start writes, what a run is lent, and an interning; and nothing
+abbrev pub lendBegin : List ℕ → List ℕ → Lent → Lent
+lendBegin frames heap l = lendFrames frames (lendHeap heap l)
+
+abbrev pub lendRun : List ℕ → List ℕ → Lent → Lent
+lendRun frames heap l = lendFrames frames (lendHeap heap l)
+
+abbrev pub lendNames : List ℕ → List ℕ → List ℕ → Lent → Lent
+lendNames heap slots spare l = lendHeap heap (lendSlots slots (lendSpare spare l))
+
+abbrev pub unlent : Lent
+unlent = record { frames = []; heap = []; slots = []; spare = [] }
+
+abbrev pub keepRegs : List ℕ → State → State
+keepRegs x s = record { regs = x; pc = s .pc; depth = s .depth; gc = s .gc; strings = s .strings }
+
+abbrev pub keepPc : ℕ → State → State
+keepPc x s = record { regs = s .regs; pc = x; depth = s .depth; gc = s .gc; strings = s .strings }
+
+abbrev pub keepDepth : ℕ → State → State
+keepDepth x s = record { regs = s .regs; pc = s .pc; depth = x; gc = s .gc; strings = s .strings }
+
+abbrev pub keepGc : Gc → State → State
+keepGc x s = record { regs = s .regs; pc = s .pc; depth = s .depth; gc = x; strings = s .strings }
+
+abbrev pub keepStrings : StrTable → State → State
+keepStrings x s = record { regs = s .regs; pc = s .pc; depth = s .depth; gc = s .gc; strings = x }
+
+-- ---- the core of a machine: of each buffer the part in use
+
 unfoldable pub memoryOf : Machine → Memory
 memoryOf m = record {
   pages = pagesOf (m .state .gc) (m .lent .heap);
@@ -45,55 +90,51 @@ memoryOf m = record {
 unfoldable pub view : Machine → Core
 view m = record { regs = m .state .regs; pc = m .state .pc; frames = take (m .state .depth) (m .lent .frames); memory = memoryOf m }
 
+-- the state of a machine that holds a core: its numbers are those of the core
+unfoldable pub stateOf : Core → State
+stateOf c =
+    record {
+      regs = c .regs;
+      pc = c .pc;
+      depth = length (c .frames);
+      gc = numbersOf (c .memory .pages);
+      strings = record { active = length (c .memory .slots); len = c .memory .names };
+    }
+
 -- ---- a core laid back over state and buffers, part by part; what is past the parts in use stays
 
 unfoldable pub withPages : Pages → Machine → Machine
-withPages p m =
-    record {
-      state = record { regs = m .state .regs; pc = m .state .pc; depth = m .state .depth; gc = numbersOf p; strings = m .state .strings };
-      lent = record { frames = m .lent .frames; heap = over (p .bytes) (m .lent .heap); slots = m .lent .slots; spare = m .lent .spare };
-    }
+withPages p m = record { state = keepGc (numbersOf p) (m .state); lent = lendHeap (over (p .bytes) (m .lent .heap)) (m .lent) }
 
 -- 'a spare slice as long (after growth it begins with the old slots, otherwise untouched, as are slots past the active ones)'
 unfoldable pub withNames : List ℕ → ℕ → Machine → Machine
 withNames slots names m =
     let active = m .state .strings .active in
     record {
-      state = record {
-        regs = m .state .regs;
-        pc = m .state .pc;
-        depth = m .state .depth;
-        gc = m .state .gc;
-        strings = record { active = length slots; len = names };
-      };
-      lent = record {
-        frames = m .lent .frames;
-        heap = m .lent .heap;
-        slots = over slots (m .lent .slots);
-        spare = spareAfter (ltb active (length slots)) (take active (m .lent .slots)) (m .lent .spare);
-      };
+      state = keepStrings (record { active = length slots; len = names }) (m .state);
+      lent = lendSlots (over slots (m .lent .slots))
+          (lendSpare (spareAfter (ltb active (length slots)) (take active (m .lent .slots)) (m .lent .spare)) (m .lent));
     }
 
--- the lists of a trail written over the frames in turn: a frame above the depth keeps what a `Call` left there
-unfoldable pub traced : List (List ℕ) → List ℕ → List ℕ
-traced [] old = old
-traced (f ∷ fs) old = traced fs (over f old)
+-- one part of each core of a trail, written over a buffer in turn: what is past the part in use keeps what was last written there
+unfoldable pub traced : (Core → List ℕ) → List Core → List ℕ → List ℕ
+traced part [] old = old
+traced part (d ∷ ds) old = traced part ds (over (part d) old)
 
-unfoldable pub withFrames : List (List ℕ) → List ℕ → Machine → Machine
-withFrames trail frames m =
-    record {
-      state = record { regs = m .state .regs; pc = m .state .pc; depth = length frames; gc = m .state .gc; strings = m .state .strings };
-      lent = record { frames = over frames (traced trail (m .lent .frames)); heap = m .lent .heap; slots = m .lent .slots; spare = m .lent .spare };
-    }
+abbrev pub framesOf : Core → List ℕ
+framesOf c = c .frames
 
-unfoldable pub withRegs : List ℕ → ℕ → Machine → Machine
-withRegs regs pc m = record {
-  state = record { regs = regs; pc = pc; depth = m .state .depth; gc = m .state .gc; strings = m .state .strings };
-  lent = m .lent;
+unfoldable pub withFrames : List Core → List ℕ → Machine → Machine
+withFrames trail frames m = record {
+  state = keepDepth (length frames) (m .state);
+  lent = lendFrames (over frames (traced framesOf trail (m .lent .frames))) (m .lent);
 }
 
+unfoldable pub withRegs : List ℕ → ℕ → Machine → Machine
+withRegs regs pc m = record { state = keepRegs regs (keepPc pc (m .state)); lent = m .lent }
+
 -- all of these but the names, which a run leaves alone
-unfoldable pub laid : List (List ℕ) → Core → Machine → Machine
+unfoldable pub laid : List Core → Core → Machine → Machine
 laid trail c m = withRegs (c .regs) (c .pc) (withFrames trail (c .frames) (withPages (c .memory .pages) m))
 
 -- ---- the calls
@@ -135,30 +176,30 @@ pub record Called : Type 0 where
 
 -- ---- what a call makes of a core, within what is lent
 
--- a core with what a run wrote to the frames on the way
+-- a core with the cores on the way to it, whose parts a run wrote to the buffers
 pub record Acted : Type 0 where
   pub answer : Answer
   pub core : Core
-  pub trail : List (List ℕ)
+  pub trail : List Core
 
--- a run from the pc p, on code of n words: frame 0 is written first
-unfoldable pub ran : ℕ → ℕ → Ran → Acted
-ran n p r = record {
+-- a run from the core c, on code of n words: frame 0 is written first, also where none is in use
+unfoldable pub ran : ℕ → Core → Ran → Acted
+ran n c r = record {
   answer = ended (r .ending) (r .core .pc) (r .steps);
-  core = stored (r .ending) p (r .core);
-  trail = (root n ∷ []) ∷ r .trail;
+  core = stored (r .ending) (c .pc) (r .core);
+  trail = setFrames (root n ∷ []) c ∷ r .trail;
 }
 
 unfoldable pub idle : Core → Ran
-idle c = record { ending = 0; core = c; steps = 0; trail = [] }
+idle c = ends 0 c 0
 
 -- 'Empty code returns 0 and writes nothing'; a pc past the end returns 0 with no step
 unfoldable pub runs : Sizes → Image → ℕ → ℕ → Core → Acted
 runs lent im b zero c = record { answer = ended 0 (c .pc) 0; core = c; trail = [] }
 runs lent im b (suc k) c =
     elim (ltb (c .pc) (suc k)) [
-      | true ↦ ran (suc k) (c .pc) (go lent im b (entered (suc k) c))
-      | false ↦ ran (suc k) (c .pc) (idle (entered (suc k) c))
+      | true ↦ ran (suc k) c (go lent im b (entered (suc k) c))
+      | false ↦ ran (suc k) c (idle (entered (suc k) c))
     ]
 
 unfoldable pub hosted : Host → Memory → Given

@@ -17,15 +17,16 @@ use Rattle.vm.specs.Core.{Core, Sizes, used, short, setReg, setPc, setFr
 use Rattle.program.specs.Image.{Image}
 use Rattle.program.specs.Effect.{unlisted, wordEffect}
 
--- what an instruction comes to: a further core, a Halt, or an end with the core as it was
+-- what an instruction comes to: a further core, a Halt, or an end with the core that it leaves
 pub data Step : Type 0 where
   next : Core → Step
   halted : Step
-  stop : ℕ → Step
+  stop : ℕ → Core → Step
 
-unfoldable pub provided : Bool → ℕ → Core → Step
-provided true e d = next d
-provided false e d = stop e
+-- from c to d, or an end that leaves c
+unfoldable pub provided : Bool → ℕ → Core → Core → Step
+provided true e c d = next d
+provided false e c d = stop e c
 
 unfoldable pub forward : Core → Core
 forward c = setPc (c .pc + 1) c
@@ -42,7 +43,7 @@ stored8 a v p = setBytes (write (a - p .base) (bytesOf 8 v) (p .bytes)) p
 
 -- '`Ret` at depth 0: end 8'; a return goes on behind the `Call`
 unfoldable pub returned : ℕ → Core → Step
-returned zero c = stop 8
+returned zero c = stop 8 c
 returned (suc d) c = next (setPc ((getD (c .frames) d 0 + 1) % 2 ^ 64) (setFrames (take d (c .frames)) c))
 
 unfoldable pub blockTo : ℕ → Core → Block → Step
@@ -55,13 +56,13 @@ apply effect.Skip c = next (forward c)
 apply (effect.Goto target) c = next (setPc target c)
 apply (effect.Call func) c = next (setPc func (setFrames (c .frames ++ (c .pc ∷ [])) c))
 apply effect.Ret c = returned (length (c .frames)) c
-apply (effect.Load dst base offset) c = provided (addressed (c .memory .pages) (base + offset)) 6
+apply (effect.Load dst base offset) c = provided (addressed (c .memory .pages) (base + offset)) 6 c
     (forward (setReg dst (loaded (c .memory .pages) (base + offset)) c))
 apply (effect.Store base offset v) c =
-    provided (addressed (c .memory .pages) (base + offset)) 6
+    provided (addressed (c .memory .pages) (base + offset)) 6 c
     (forward (setMemory (setPages (stored8 (base + offset) v (c .memory .pages)) (c .memory)) c))
 apply (effect.Alloc dst kind size) c = blockTo dst c (allocated pageSize kind size (c .memory .pages))
-apply (effect.Stop e) c = stop e
+apply (effect.Stop e) c = stop e c
 apply effect.Halt c = halted
 
 -- the effect of the word at the pc
@@ -69,41 +70,44 @@ unfoldable pub fetched : Bool → Image → Core → Effect
 fetched true im c = wordEffect im (c .regs) (decodeOf (getD (im .code) (c .pc) 0))
 fetched false im c = effect.Stop unlisted
 
--- ---- held to what is lent: a step whose result does not fit stops as if it had done nothing
+-- what the word at the pc asks for
+unfoldable pub asked : Image → Core → Effect
+asked im c = fetched (ltb (c .pc) (length (im .code))) im c
 
-unfoldable pub unless : Option ℕ → Core → Step
-unless none d = next d
-unless (some e) d = stop e
+-- ---- held to what is lent: a step from c whose result does not fit stops as if it had done nothing
 
-unfoldable pub limited : Sizes → Step → Step
-limited lent (next d) = unless (short lent (used d)) d
-limited lent halted = halted
-limited lent (stop e) = stop e
+unfoldable pub unless : Option ℕ → Core → Core → Step
+unless none c d = next d
+unless (some e) c d = stop e c
+
+unfoldable pub limited : Sizes → Core → Step → Step
+limited lent c (next d) = unless (short lent (used d)) c d
+limited lent c halted = halted
+limited lent c (stop e d) = stop e d
 
 unfoldable pub step : Sizes → Image → Core → Step
-step lent im c = limited lent (apply (fetched (ltb (c .pc) (length (im .code))) im c) c)
+step lent im c = limited lent c (apply (asked im c) c)
 
 -- ---- a run
 
--- how a run ended, the core it left, the instructions completed, and the frames in use after each of them
+-- how a run ended, the core it left, the instructions completed, and the core after each of them
 pub record Ran : Type 0 where
   pub ending : ℕ
   pub core : Core
   pub steps : ℕ
-  pub trail : List (List ℕ)
+  pub trail : List Core
 
 unfoldable pub after : Core → Ran → Ran
-after d r = record { ending = r .ending; core = r .core; steps = suc (r .steps); trail = d .frames ∷ r .trail }
+after d r = record { ending = r .ending; core = r .core; steps = suc (r .steps); trail = d ∷ r .trail }
+
+-- an end e, with the core that is left
+abbrev pub ends : ℕ → Core → ℕ → Ran
+ends e c steps = record { ending = e; core = c; steps = steps; trail = [] }
 
 -- 'Halt counts as a step; a stopped instruction doesn't'; 5 when the budget is completed
 unfoldable pub go : Sizes → Image → ℕ → Core → Ran
-go lent im zero c = record { ending = 5; core = c; steps = 0; trail = [] }
-go lent im (suc b) c =
-    elim (step lent im c) [
-      | next d ↦ after d (go lent im b d)
-      | halted ↦ record { ending = 0; core = c; steps = 1; trail = [] }
-      | stop e ↦ record { ending = e; core = c; steps = 0; trail = [] }
-    ]
+go lent im zero c = ends 5 c 0
+go lent im (suc b) c = elim (step lent im c) [ next d ↦ after d (go lent im b d) | halted ↦ ends 0 c 1 | stop e d ↦ ends e d 0 ]
 
 -- 'A run on non-empty code writes frame 0 with (length − 2) modulo 2^64, even if pc is past the end'
 unfoldable pub root : ℕ → ℕ

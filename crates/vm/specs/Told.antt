@@ -16,7 +16,7 @@ use Rattle.vm.specs.declared.Called.{Called}
 use Rattle.vm.specs.declared.Opt.{Opt}
 use Rattle.vm.specs.Core.{Memory}
 use Rattle.vm.specs.Names.{Given}
-use Rattle.vm.specs.Machine.{Lent, Machine, Answer, ended, value, done, refused, Started, declined, begun, blank}
+use Rattle.vm.specs.Machine.{Lent, Machine, keepGc, keepStrings, Answer, ended, value, done, refused, Started, declined, begun, blank}
 use Rattle.vm.specs.Machine as Machine
 
 abbrev pub lentOf : List ℕ → List ℕ → List ℕ → List ℕ → Lent
@@ -35,11 +35,11 @@ refusedBy why s = record { reply = Reply.Refused why; state = s }
 
 -- a state with the numbers of another heap and table
 abbrev pub holding : State → Gc → StrTable → State
-holding s g t = record { regs = s .regs; pc = s .pc; depth = s .depth; gc = g; strings = t }
+holding s g t = keepGc g (keepStrings t s)
 
 -- a block's address, and the state with the heap's numbers; or 2
 abbrev pub allocatedIn : State → Alloc → Called
-allocatedIn s (Alloc.At address g) = record { reply = Reply.Value address; state = holding s g (s .strings) }
+allocatedIn s (Alloc.At address g) = record { reply = Reply.Value address; state = keepGc g s }
 allocatedIn s Alloc.Refused = refusedBy Refusal.Memory s
 
 -- a reply with the state, and the buffers after the call

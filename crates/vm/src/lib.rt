@@ -1,11 +1,9 @@
 // The machine: what it keeps between calls, and the calls of its host.
 ghost use mathlib.Core.Path.{_≡_};
-ghost use mathlib.Core.List.{List};
-ghost use Prim.Native.Nat.{ℕ};
-ghost use Rattle.vm.specs.Machine.{Lent, reset, putPc, putReg, setting, allocate, option, host, done, perform};
+ghost use Rattle.vm.specs.Machine.{Lent, lendFrames, lendHeap, reset, putPc, putReg, setting, allocate, option, host, done, perform};
 ghost use Rattle.gc.specs.Lent.{InHeap, outcome, grantedIn};
 ghost use Rattle.vm.specs.Names.{boxed};
-ghost use Rattle.vm.specs.Told.{lentOf, machineOf, told, refusedBy, allocatedIn, blockOf, memoryIn, optionOf};
+ghost use Rattle.vm.specs.Told.{machineOf, told, refusedBy, allocatedIn, blockOf, memoryIn, optionOf};
 
 pub mod lent;
 pub mod start;
@@ -119,9 +117,8 @@ impl State {
 
     // pc and frame 0 unset, and depth 1; registers, heap and names stay.
     pub fn reset(self, frames: &mut [u64]) -> Called
-        ensures { λ r. ⌜ ((heap slots spare : List ℕ)
-            → told r (lentOf (now (frames .exit)) heap slots spare)
-            ≡ perform (setting reset) (machineOf self (lentOf (now (frames .entry)) heap slots spare))) ⌝ }
+        ensures { λ r. ⌜ ((l : Lent)
+            → told r (lendFrames (now (frames .exit)) l) ≡ perform (setting reset) (machineOf self (lendFrames (now (frames .entry)) l))) ⌝ }
     {
         if !lent::frames_ok(frames.len()) {
             return self.refused(Refusal::Size);
@@ -138,9 +135,8 @@ impl State {
 
     // A block of `size` bytes and a kind; its alignment is tested and changes nothing.
     pub fn allocate(self, kind: u64, align: usize, size: u64, heap: &mut [u8]) -> Called
-        ensures { λ r. ⌜ ((frames slots spare : List ℕ)
-            → told r (lentOf frames (now (heap .exit)) slots spare)
-            ≡ perform (host (allocate kind align size)) (machineOf self (lentOf frames (now (heap .entry)) slots spare))) ⌝ }
+        ensures { λ r. ⌜ ((l : Lent)
+            → told r (lendHeap (now (heap .exit)) l) ≡ perform (host (allocate kind align size)) (machineOf self (lendHeap (now (heap .entry)) l))) ⌝ }
     {
         let gc = self.gc;
         if !lent::heap_ok(gc.base, heap.len()) {
@@ -157,9 +153,8 @@ impl State {
     }
 
     pub fn new_option(self, value: Opt, heap: &mut [u8]) -> Called
-        ensures { λ r. ⌜ ((frames slots spare : List ℕ)
-            → told r (lentOf frames (now (heap .exit)) slots spare)
-            ≡ perform (host (option (optionOf value))) (machineOf self (lentOf frames (now (heap .entry)) slots spare))) ⌝ }
+        ensures { λ r. ⌜ ((l : Lent)
+            → told r (lendHeap (now (heap .exit)) l) ≡ perform (host (option (optionOf value))) (machineOf self (lendHeap (now (heap .entry)) l))) ⌝ }
     {
         let gc = self.gc;
         if !lent::heap_ok(gc.base, heap.len()) {

@@ -1,11 +1,10 @@
 // The start of a machine: what the loader refuses, and what a start leaves.
 ghost use mathlib.Core.Path.{_≡_};
-ghost use Prim.Native.Nat.{ℕ, _+_, _^_, _≤_};
-ghost use mathlib.Core.List.{List};
+ghost use Prim.Native.Nat.{_+_, _^_, _≤_};
 ghost use lib.ListN.{length};
 ghost use Rattle.gc.specs.Lent.{pageSize};
 ghost use Rattle.program.specs.Image.{tablesOf, imageOf};
-ghost use Rattle.vm.specs.Machine.{Lent, blank, begin, start};
+ghost use Rattle.vm.specs.Machine.{Lent, lendBegin, blank, begin, start};
 ghost use Rattle.vm.specs.Told.{lentOf, machineOf, told, startedOn};
 use crate::Called;
 use crate::Reply;
@@ -44,9 +43,8 @@ fn blank(base: u64) -> State
 // Registers and pc 0, frame 0 as `reset` leaves it, page 0 with the box of none.
 fn begin(base: u64, frames: &mut [u64], heap: &mut [u8]) -> State
     requires { ⌜ (1 ≤ length (now frames)) × ((base + length (now heap) ≤ 2 ^ 48) × (pageSize ≤ length (now heap))) ⌝ }
-    ensures { λ r. ⌜ ((slots spare : List ℕ)
-        → machineOf r (lentOf (now (frames .exit)) (now (heap .exit)) slots spare)
-        ≡ begin base (lentOf (now (frames .entry)) (now (heap .entry)) slots spare)) ⌝ }
+    ensures { λ r. ⌜ ((l : Lent)
+        → machineOf r (lendBegin (now (frames .exit)) (now (heap .exit)) l) ≡ begin base (lendBegin (now (frames .entry)) (now (heap .entry)) l)) ⌝ }
 {
     let mut state = blank(base);
     let bare = Gc {

@@ -8,7 +8,7 @@ use Rattle.girzhanok.proofs.girzhanok_intern_small.Statement.{statement
 use Rattle.girzhanok.proofs.girzhanok_intern_small.Tie as tie
 
 returns : tie.Need-returns
-returns c = λ frames. too-short _ _ _ _ (omega arith)
+returns c = λ l. too-short _ _ _ _ (omega arith)
 
 returns-2 : tie.Need-returns-2
 returns-2 c =
@@ -18,11 +18,11 @@ returns-2 c =
     let unpack-heap = unpack-table .before .before in
     let if1 = unpack-heap .before .before in
     let start = if1 .before .before .before .before .before in
-    λ frames. served _ _ _ _ (if1 .if1 .left) (unpacked (start .args .state .now)) refl _
+    λ l. served _ _ _ _ (if1 .if1 .left) (unpacked (start .args .state .now)) refl _
     (rw (
       unpack-heap .unpack-heap .ensures,
       unpack-table .unpack-table .ensures,
-    ) at (intern-small .intern-small .ensures (unpacked (start .args .state .now)) frames)) _ _ _ (answer-name .answer-name .ensures .0)
+    ) at (intern-small .intern-small .ensures (unpacked (start .args .state .now)) l)) _ _ _ (answer-name .answer-name .ensures .0)
     (answer-name .answer-name .ensures .1) (answer-name .answer-name .ensures .2)
 
 pub girzhanok-intern-small-spec : {M : Type 1} → statement M

@@ -6,7 +6,7 @@ use Rattle.girzhanok.proofs.girzhanok_option.Statement.{statement}
 use Rattle.girzhanok.proofs.girzhanok_option.Tie as tie
 
 returns : tie.Need-returns
-returns c = λ frames slots spare. too-short _ _ _ _ (omega arith)
+returns c = λ l. too-short _ _ _ _ (omega arith)
 
 returns-2 : tie.Need-returns-2
 returns-2 c =
@@ -14,9 +14,9 @@ returns-2 c =
     let option = answer .before .before .before .before .before in
     let opt = option .before .before in
     let unpack = opt .before in
-    λ frames slots spare.
+    λ l.
     served _ _ _ _ (unpack .before .before .if1 .left) _ (unpack .unpack .ensures) _
-    (rw (opt .opt .ensures) at (option .new-option .ensures frames slots spare)) _ _ _ (answer .answer-value .ensures .0)
+    (rw (opt .opt .ensures) at (option .new-option .ensures l)) _ _ _ (answer .answer-value .ensures .0)
     (answer .answer-value .ensures .1) (answer .answer-value .ensures .2)
 
 pub girzhanok-option-spec : {M : Type 1} → statement M

@@ -6,15 +6,15 @@ use Rattle.girzhanok.proofs.girzhanok_run.Statement.{statement}
 use Rattle.girzhanok.proofs.girzhanok_run.Tie as tie
 
 returns : tie.Need-returns
-returns c = λ slots spare. too-short _ _ _ _ (omega arith)
+returns c = λ l. too-short _ _ _ _ (omega arith)
 
 returns-2 : tie.Need-returns-2
 returns-2 c =
     let answer = c .before .before in
     let ran = answer .before .before .before .before .before .before .before .before in
     let unpack = ran .before .before .before in
-    λ slots spare.
-    served _ _ _ _ (unpack .before .before .if1 .left) _ (unpack .unpack .ensures) _ (ran .run .ensures slots spare) _ _ _
+    λ l.
+    served _ _ _ _ (unpack .before .before .if1 .left) _ (unpack .unpack .ensures) _ (ran .run .ensures l) _ _ _
     (answer .answer-run .ensures .0) (answer .answer-run .ensures .1) (answer .answer-run .ensures .2)
 
 pub girzhanok-run-spec : {M : Type 1} → statement M

@@ -8,7 +8,8 @@ use native.Mathlib.Omega.{arith}
 use Rattle.text.specs.declared.names.Named.{Named}
 use Rattle.text.specs.Lines.{linesOf}
 use Rattle.text.specs.Names.{namesOf, nameOf, answerOf, bytesOf}
-use Rattle.vm.specs.Told.{lentOf, machineOf, saidOf, told}
+use Rattle.vm.specs.Machine.{Lent, lendNames}
+use Rattle.vm.specs.Told.{machineOf, saidOf, told}
 use Rattle.image.proofs.Answers.{not-value}
 use Rattle.image.proofs.Interning.{Interning, interning-first, interning-next, interned-all, interned-some, bytes-there, bytes-back}
 use Rattle.image.proofs.Interning.{global-there, more-left, few-names}
@@ -18,8 +19,8 @@ use Rattle.image.proofs.intern_names.Tie as tie
 
 abbrev Inv-loop : tie.InvT-loop
 Inv-loop input globals₀ heap₀ slots₀ spare₀ name₀ s₀ i₀ globals heap slots spare name s i = Interning input
-    (λ (frames : List ℕ). machineOf s₀ (lentOf frames heap₀ slots₀ spare₀)) globals₀
-    (λ (frames : List ℕ). machineOf s (lentOf frames heap slots spare)) globals i × (length heap ≡ length heap₀)
+    (λ (l : Lent). machineOf s₀ (lendNames heap₀ slots₀ spare₀ l)) globals₀
+    (λ (l : Lent). machineOf s (lendNames heap slots spare l)) globals i × (length heap ≡ length heap₀)
     × (length slots ≡ length slots₀) × (length spare ≡ length spare₀) × (length name ≡ length name₀)
 
 abbrev μ-loop : tie.MeasureT-loop
@@ -92,7 +93,7 @@ returns-2 : tie.Need-returns-2 Inv-loop μ-loop
 returns-2 c =
     let intern = c .before .before .before .before .before .before .before in
     let name = found-before intern in
-    interned-some (turn-of name .loop .inv .0) (found name) (back name) (λ (f : List ℕ). told (intern .intern .result) (lentOf f _ _ _))
+    interned-some (turn-of name .loop .inv .0) (found name) (back name) (λ (l : Lent). told (intern .intern .result) (lendNames _ _ _ l))
     (intern .intern .ensures) (λ f. not-value _ (c .match2 .keys2))
 
 mul-globals : tie.Need-mul-globals Inv-loop μ-loop

@@ -1,5 +1,6 @@
 -- `image::rate` meets its contract. Assumes nothing.
 use mathlib.Core.Path.{refl}
+use Rattle.vm.specs.Machine.{lendFrames, lendSlots, lendSpare, unlent}
 use native.Mathlib.Omega.{arith}
 use Rattle.image.proofs.Readings.{text-short}
 use Rattle.image.proofs.Answers.{with-globals, globals-are, not-done, done-is, start-says, names-say, run-says, says-as}
@@ -63,7 +64,7 @@ returns-2 c =
     let start = start-before intern-names in
     let lent = lent-to start in
     says-as _ _ _ _ _ (names-say _ _ _ _ _ _ _ (rw (lent .pre .4, lent .pre .5) at (start .start .ensures))
-    (done-is _ (start-done .enum-told .given .1)) _ (globals-are _ _ _ _ _ _ (lent .pre .4)) _ _ _ (intern-names .intern-names .ensures _)
+    (done-is _ (start-done .enum-told .given .1)) _ (globals-are _ _ _ _ _ _ (lent .pre .4)) _ _ _ (intern-names .intern-names .ensures (lendFrames _ unlent))
     (not-done _ (match-reply .match2 .keys2))) (put-reply .put-reply2 .ensures)
 
 cast-budget : tie.Need-cast-budget
@@ -99,9 +100,9 @@ returns-3 c =
     let start = start-before intern-names in
     let lent = lent-to start in
     says-as _ _ _ _ _ (run-says _ _ _ _ _ _ _ (rw (lent .pre .4, lent .pre .5) at (start .start .ensures))
-    (done-is _ (start-done .enum-told .given .1)) _ (globals-are _ _ _ _ _ _ (lent .pre .4)) _ _ _ (intern-names .intern-names .ensures _)
-    (done-is _ (names-done .enum-told2 .given .1)) _ (with-globals _ _ _ _ _ _ (lent .pre .4) _) _ refl _ _ _ _ _ refl _
-    (run .run .ensures)) (put-ran .put-ran .ensures)
+    (done-is _ (start-done .enum-told .given .1)) _ (globals-are _ _ _ _ _ _ (lent .pre .4)) _ _ _ (intern-names .intern-names .ensures (lendFrames _ unlent))
+    (done-is _ (names-done .enum-told2 .given .1)) _ (with-globals _ _ _ _ _ _ (lent .pre .4) _) _ refl _ _ refl _
+    (run .run .ensures (lendSlots _ (lendSpare _ unlent)))) (put-ran .put-ran .ensures)
 
 pub rate-spec : {M : Type 1} → statement M
 rate-spec =

@@ -7,7 +7,7 @@ returns : tie.Need-returns
 returns c =
     let intern = c .before .before .before .before .before .before .before in
     let start = intern .before .before .before .before .before .before .before .before in
-    λ frames. rw (c .interned .ensures) (intern .intern .ensures (start .args .state) frames)
+    λ l. rw (c .interned .ensures) (intern .intern .ensures (start .args .state) l)
 
 pub intern-spec : {M : Type 1} → statement M
 intern-spec =

@@ -7,7 +7,7 @@ returns : tie.Need-returns
 returns c =
     let intern-small = c .before .before .before .before .before .before .before in
     let start = intern-small .before .before .before .before .before .before .before in
-    λ frames. rw (c .interned .ensures) (intern-small .intern-small .ensures (start .args .state) frames)
+    λ l. rw (c .interned .ensures) (intern-small .intern-small .ensures (start .args .state) l)
 
 pub intern-small-spec : {M : Type 1} → statement M
 intern-small-spec =

@@ -1,7 +1,10 @@
 -- `run::go` meets its contract. Assumes nothing.
+use mathlib.Core.Path.{_≡_, refl, _∙_}
 use Prim.Native.Nat.{_-_}
+use lib.ListN.{length}
 use native.Mathlib.Omega.{arith}
 use Rattle.program.specs.Image.{tablesOf, imageOf}
+use Rattle.vm.specs.Machine.{Lent, lendRun}
 use Rattle.run.proofs.Loops.{Running, running-first, running-next, halted-here, stopped-here, spent-here, asks-writable, next-fits}
 use borrow.Author.Needs.{needs}
 use Rattle.run.proofs.go.Statement.{statement}
@@ -11,7 +14,8 @@ abbrev Inv-loop : tie.InvT-loop
 Inv-loop budget regs₀ code globals switch-firsts switch-ends switch-entries lookup-firsts lookup-ends lookup-entries defaults frames₀ heap₀
     at₀ steps₀ regs frames heap at steps = Running
     (imageOf code globals (tablesOf switch-firsts switch-ends switch-entries) (tablesOf lookup-firsts lookup-ends lookup-entries) defaults)
-    budget regs₀ frames₀ heap₀ at₀ regs frames heap at steps
+    budget regs₀ (λ (l : Lent). lendRun frames₀ heap₀ l) at₀ regs (λ (l : Lent). lendRun frames heap l) at steps
+    × (length frames ≡ length frames₀) × (length heap ≡ length heap₀)
 
 abbrev μ-loop : tie.MeasureT-loop
 μ-loop budget regs₀ code globals switch-firsts switch-ends switch-entries lookup-firsts lookup-ends lookup-entries defaults frames₀ heap₀
@@ -34,12 +38,12 @@ word-of c = c .before .before .before .before .before .before .before .before
 loop-holds : tie.Need-loop-holds Inv-loop μ-loop
 loop-holds c =
     let start = c .before .before .before .before .before .before .before .before .before .before .before in
-    running-first _ _ _ _ _ _ (start .pre .1)
+    (running-first _ _ _ _ _ (start .pre .1), refl, refl)
 
 shared-slice-read-word-effect : tie.Need-shared-slice-read-word-effect Inv-loop μ-loop
 shared-slice-read-word-effect c =
     let loop = c .before .before in
-    loop .loop .inv .going .here
+    loop .loop .inv .0 .here
 
 word-effect-requires : tie.Need-word-effect-requires Inv-loop μ-loop
 word-effect-requires c κs =
@@ -52,10 +56,9 @@ apply-requires c κs =
     let loop = test-of word-effect .before in
     let start = start-of loop in (
       rw (word-effect .word-effect .ensures (start .args .code .now))
-          (asks-writable _ (start .pre .0) _ _ _ _ _ _ _ _ _ _ (loop .loop .inv)),
-      next-fits _ (start .pre .0) _ _ _ _ _ _ _ _ _ _ (loop .loop .inv),
-      loop .loop .inv .going .deep,
-      loop .loop .inv .going .sound,
+          (asks-writable _ (start .pre .0) _ _ _ _ _ _ _ _ (loop .loop .inv .0)),
+      next-fits _ (start .pre .0) _ _ _ _ _ _ _ _ (loop .loop .inv .0),
+      λ l. loop .loop .inv .0 .going l .fitting,
     )
 
 add-done : tie.Need-add-done Inv-loop μ-loop
@@ -70,11 +73,11 @@ returns c =
     let loop-test = test-of word-effect in
     let loop = loop-test .before in
     let start = start-of loop in
-    λ t slots spare. halted-here _ (start .pre .0) _ _ _ _ _ _ _ _ _ _ (loop .loop .inv) (omega (arith, loop-test .loop-test .taken)) t slots spare _
+    λ s l. halted-here _ (start .pre .0) _ _ _ _ _ _ _ _ (loop .loop .inv .0) (omega (arith, loop-test .loop-test .taken)) s l _
     (rw (
       word-effect .word-effect .ensures (start .args .code .now),
       c .enum-told .given .1,
-    ) at (apply .apply .ensures t slots spare))
+    ) at (apply .apply .ensures s l))
 
 returns-2 : tie.Need-returns-2 Inv-loop μ-loop
 returns-2 c =
@@ -84,12 +87,11 @@ returns-2 c =
     let loop-test = test-of word-effect in
     let loop = loop-test .before in
     let start = start-of loop in
-    λ t slots spare. stopped-here _ (start .pre .0) _ _ _ _ _ _ _ _ _ _ (loop .loop .inv) (omega (arith, loop-test .loop-test .taken)) t
-    slots spare _ _
+    λ s l. stopped-here _ (start .pre .0) _ _ _ _ _ _ _ _ (loop .loop .inv .0) (omega (arith, loop-test .loop-test .taken)) s l _ _
     (rw (
       word-effect .word-effect .ensures (start .args .code .now),
       ending .ending .given .1,
-    ) at (apply .apply .ensures t slots spare))
+    ) at (apply .apply .ensures s l))
 
 add-steps : tie.Need-add-steps Inv-loop μ-loop
 add-steps c =
@@ -108,28 +110,32 @@ loop-again c =
     let word-effect = apply .before .before .before .before in
     let loop-test = test-of word-effect in
     let loop = loop-test .before in
-    let start = start-of loop in
-    running-next _ (start .pre .0) _ _ _ _ _ _ _ _ _ _ (loop .loop .inv) (omega (arith, loop-test .loop-test .taken)) _ _ _ _
-    (λ t slots spare. rw (
-      word-effect .word-effect .ensures (start .args .code .now),
-      to .to .given .1,
-    ) at (apply .apply .ensures t slots spare)) (frames .frames .given) (heap .heap .given)
+    let start = start-of loop in (
+      running-next _ (start .pre .0) _ _ _ _ _ _ _ _ (loop .loop .inv .0) (omega (arith, loop-test .loop-test .taken)) _ _
+          (λ (l : Lent). lendRun _ _ l)
+          (λ s l. rw (
+            word-effect .word-effect .ensures (start .args .code .now),
+            to .to .given .1,
+          ) at (apply .apply .ensures s l)),
+      frames .frames .given ∙ loop .loop .inv .1,
+      heap .heap .given ∙ loop .loop .inv .2,
+    )
 
 same-length-5 : tie.Need-same-length-5 Inv-loop μ-loop
 same-length-5 c =
     let loop = c .before in
-    loop .loop .inv .as-deep
+    loop .loop .inv .1
 
 same-length-6 : tie.Need-same-length-6 Inv-loop μ-loop
 same-length-6 c =
     let loop = c .before in
-    loop .loop .inv .as-long
+    loop .loop .inv .2
 
 returns-3 : tie.Need-returns-3 Inv-loop μ-loop
 returns-3 c =
     let loop = c .before in
     let start = start-of loop in
-    λ t slots spare. spent-here _ (start .pre .0) _ _ _ _ _ _ _ _ _ _ (loop .loop .inv) (c .loop-test .left) t slots spare
+    λ s l. spent-here _ (start .pre .0) _ _ _ _ _ _ _ _ (loop .loop .inv .0) (c .loop-test .left) s l
 
 pub go-spec : {M : Type 1} → statement M
 go-spec =

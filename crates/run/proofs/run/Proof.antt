@@ -1,9 +1,10 @@
 -- `run::run` meets its contract. Assumes nothing.
 use mathlib.Core.Path.{sym, _∙_}
 use borrow.Author.Tests.{not-true, not-false}
+use Rattle.vm.specs.Machine.{lendRun}
 use Rattle.vm.specs.Told.{answerOf}
 use Rattle.vm.proofs.Loading.{verdict-refused, verdict-fine, refused-listed}
-use Rattle.run.proofs.Entering.{any-slots, run-refused, run-foreign, run-fine, run-passed}
+use Rattle.run.proofs.Entering.{run-refused, run-foreign, run-fine, run-passed}
 use borrow.Author.Needs.{needs}
 use Rattle.run.proofs.run.Statement.{statement}
 use Rattle.run.proofs.run.Tie as tie
@@ -24,11 +25,11 @@ returns c =
     let check = frames-belong .before .before in
     let heap-ok = check .before in
     let frames-ok = heap-ok .before in
-    λ slots spare. rw (c .not-run2 .ensures)
-    (run-foreign _ _ _ _ _
+    λ l. rw (c .not-run2 .ensures)
+    (run-foreign _ _ _ (lendRun _ _ l)
     (rw (frames-ok .frames-ok .ensures, heap-ok .heap-ok .ensures) at (verdict-fine _ _
     (sym (enum-told .enum-told .given .1) ∙ check .check .ensures))) (frames-belong .frames-belong .ensures) (sound .sound .ensures)
-    (not-true _ (if1 .if1 .taken)) slots spare)
+    (not-true _ (if1 .if1 .taken)))
 
 run-checked-requires : tie.Need-run-checked-requires
 run-checked-requires c κs =
@@ -39,7 +40,7 @@ run-checked-requires c κs =
     let check = frames-belong .before .before in
     let heap-ok = check .before in
     let frames-ok = heap-ok .before in
-    run-fine _ _ _ _ _ (rw (frames-ok .frames-ok .ensures, heap-ok .heap-ok .ensures) at (verdict-fine _ _
+    λ l. run-fine _ _ _ (lendRun _ _ l) (rw (frames-ok .frames-ok .ensures, heap-ok .heap-ok .ensures) at (verdict-fine _ _
     (sym (enum-told .enum-told .given .1) ∙ check .check .ensures))) (frames-belong .frames-belong .ensures) (sound .sound .ensures)
     (not-false _ (if1 .if1 .left))
 
@@ -51,16 +52,16 @@ returns-2 c =
     let check = checked .before .before .before .before .before in
     let heap-ok = check .before in
     let frames-ok = heap-ok .before in
-    λ slots spare. rw (c .not-run .ensures)
-    (run-refused _ _ _ _ _ slots spare _ _
+    λ l. rw (c .not-run .ensures)
+    (run-refused _ _ _ (lendRun _ _ l) _ _
     (rw (frames-ok .frames-ok .ensures, heap-ok .heap-ok .ensures) at (verdict-refused _ _ _
     (sym (checked .checked .given .1) ∙ check .check .ensures))) (from-number .from-number .ensures))
 
 returns-3 : tie.Need-returns-3
 returns-3 c =
     let run-checked = c .before .before .before .before in
-    λ slots spare. run-checked .run-checked .ensures slots spare ∙ run-passed _ _ _ _ _ slots spare
-    (any-slots _ _ _ _ _ (run-checked-requires (run-checked .before) (run-checked .run-checked .lifetimes)) slots spare)
+    λ l. run-checked .run-checked .ensures l ∙ run-passed _ _ _ (lendRun _ _ l)
+    (run-checked-requires (run-checked .before) (run-checked .run-checked .lifetimes) l)
 
 pub run-spec : {M : Type 1} → statement M
 run-spec =

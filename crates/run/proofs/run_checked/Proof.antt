@@ -1,12 +1,11 @@
 -- `run::run_checked` meets its contract. Assumes nothing.
 use mathlib.Core.Path.{_≡_, _∙_}
-use mathlib.Core.List.{[]}
 use lib.ListN.{length, length-set}
 use native.Mathlib.Omega.{arith}
 use Rattle.vm.specs.Run.{root}
-use Rattle.vm.specs.Machine.{withRegs}
+use Rattle.vm.specs.Machine.{Lent, lendRun, unlent, withRegs}
 use Rattle.vm.specs.Told.{answerOf}
-use Rattle.run.proofs.Entering.{any-slots, root-is, frame-there, run-empty, run-past, run-goes, loaded, going, run-listed}
+use Rattle.run.proofs.Entering.{root-is, frame-there, run-empty, run-past, run-goes, loaded, going, run-listed}
 use borrow.Author.Needs.{needs}
 use Rattle.run.proofs.run_checked.Statement.{statement}
 use Rattle.run.proofs.run_checked.Tie as tie
@@ -19,12 +18,16 @@ start-of c = c .before .before .before .before .before .before .before .before .
 abbrev entry-of : tie.After-go → tie.Else2
 entry-of c = c .before .before .before .before .before .before
 
+-- what was lent
+abbrev lent-to : tie.Start → Lent → Lent
+lent-to start l = lendRun (start .args .frames .now) (start .args .heap .now) l
+
 -- frame 0 is written with (length − 2) modulo 2^64
 frame-0 : (c : tie.After-wrapping-sub-u64)
     → c .wrapping-sub-u64 .result ≡ root (length (start-of (c .before .before) .args .code .now))
 frame-0 c =
     let start = start-of (c .before .before) in
-    root-is _ _ _ _ _ _ _ (start .pre) _ (omega arith) (c .wrapping-sub-u64 .ensures)
+    root-is _ _ _ (lent-to start unlent) (start .pre unlent) _ (omega arith) (c .wrapping-sub-u64 .ensures)
 
 -- ---- needs
 
@@ -33,10 +36,10 @@ unfolding answerOf
 returns c =
     let if1 = c .before in
     let start = start-of (if1 .before) in
-    λ slots spare. rw (c .idle .ensures) (run-empty _ _ _ _ _ slots spare (any-slots _ _ _ _ _ (start .pre) slots spare) (if1 .if1 .taken))
+    λ l. rw (c .idle .ensures) (run-empty _ _ _ (lent-to start l) (start .pre l) (if1 .if1 .taken))
 
 slice-write-frames : tie.Need-slice-write-frames
-slice-write-frames c = frame-there _ _ _ _ _ _ _ (start-of (c .before .before) .pre)
+slice-write-frames c = let start = start-of (c .before .before) in frame-there _ _ _ (lent-to start unlent) (start .pre unlent)
 
 returns-2 : tie.Need-returns-2
 unfolding answerOf
@@ -45,8 +48,8 @@ returns-2 c =
     let wrapping-sub-u64 = if2 .before .before in
     let if1 = wrapping-sub-u64 .before in
     let start = start-of (if1 .before) in
-    λ slots spare. rw (c .idle2 .ensures)
-    (run-past _ _ _ _ _ slots spare (any-slots _ _ _ _ _ (start .pre) slots spare) (frame-0 wrapping-sub-u64) (omega (arith, if1 .if1 .left))
+    λ l. rw (c .idle2 .ensures)
+    (run-past _ _ _ (lent-to start l) (start .pre l) (frame-0 wrapping-sub-u64) (omega (arith, if1 .if1 .left))
     (if2 .if2 .taken))
 
 go-requires : tie.Need-go-requires
@@ -55,8 +58,8 @@ go-requires c κs =
     let wrapping-sub-u64 = if2 .before .before in
     let if1 = wrapping-sub-u64 .before in
     let start = start-of (if1 .before) in (
-      loaded _ _ _ _ _ _ _ (start .pre) (omega (arith, if1 .if1 .left)),
-      going _ _ _ _ _ _ _ (start .pre) (frame-0 wrapping-sub-u64) (if2 .if2 .left),
+      loaded _ _ _ (lent-to start unlent) (start .pre unlent) (omega (arith, if1 .if1 .left)),
+      λ l. going _ _ _ (lent-to start l) (start .pre l) (frame-0 wrapping-sub-u64) (if2 .if2 .left),
     )
 
 finish-requires : tie.Need-finish-requires
@@ -65,7 +68,8 @@ finish-requires c κs =
     let if2 = entry-of go in
     let wrapping-sub-u64 = if2 .before .before in
     let start = start-of (wrapping-sub-u64 .before .before) in
-    run-listed _ _ _ _ _ [] [] (start .pre) (frame-0 wrapping-sub-u64) (if2 .if2 .left) _ (go .go .ensures (start .args .state .strings) [] [])
+    run-listed _ _ _ (lent-to start unlent) (start .pre unlent) (frame-0 wrapping-sub-u64) (if2 .if2 .left) _
+    (go .go .ensures (start .args .state) unlent)
 
 same-length-2 : tie.Need-same-length-2
 same-length-2 c =
@@ -81,9 +85,9 @@ returns-3 c =
     let if2 = entry-of go in
     let wrapping-sub-u64 = if2 .before .before in
     let start = start-of (wrapping-sub-u64 .before .before) in
-    λ slots spare. rw (c .finish .ensures .0, c .finish .ensures .1)
-    (run-goes _ _ _ _ _ slots spare (any-slots _ _ _ _ _ (start .pre) slots spare) (frame-0 wrapping-sub-u64) (if2 .if2 .left) _
-    (go .go .ensures (start .args .state .strings) slots spare))
+    λ l. rw (c .finish .ensures .0, c .finish .ensures .1)
+    (run-goes _ _ _ (lent-to start l) (start .pre l) (frame-0 wrapping-sub-u64) (if2 .if2 .left) _
+    (go .go .ensures (start .args .state) l))
 
 pub run-checked-spec : {M : Type 1} → statement M
 run-checked-spec =

@@ -11,7 +11,7 @@ returns c =
     let slots-ok = c .before in
     let heap-ok = slots-ok .before in
     let start = heap-ok .before .before .before .before in
-    λ rest frames. tested-10 rest frames (start .args .gc) (start .args .strings) (start .args .heap .now) (start .args .slots .now)
+    λ rest l. tested-10 rest l (start .args .gc) (start .args .strings) (start .args .heap .now) (start .args .slots .now)
     (start .args .spare .now) (heap-ok .heap-ok .ensures) (slots-ok .slots-ok .ensures) (c .if1 .taken)
 
 returns-2 : tie.Need-returns-2
@@ -23,7 +23,7 @@ returns-2 c =
     let slots-ok = if1 .before in
     let heap-ok = slots-ok .before in
     let start = heap-ok .before .before .before .before in
-    λ rest frames. tested-9 rest frames (start .args .gc) (start .args .strings) (start .args .heap .now) (start .args .slots .now)
+    λ rest l. tested-9 rest l (start .args .gc) (start .args .strings) (start .args .heap .now) (start .args .slots .now)
     (start .args .spare .now) (heap-ok .heap-ok .ensures) (slots-ok .slots-ok .ensures) (if1 .if1 .left) (sound2 .sound2 .ensures)
     (sound .sound .ensures) (c .if2 .taken)
 
@@ -36,7 +36,7 @@ returns-3 c =
     let slots-ok = if1 .before in
     let heap-ok = slots-ok .before in
     let start = heap-ok .before .before .before .before in
-    λ rest frames. tested-fine rest frames (start .args .gc) (start .args .strings) (start .args .heap .now) (start .args .slots .now)
+    λ rest l. tested-fine rest l (start .args .gc) (start .args .strings) (start .args .heap .now) (start .args .slots .now)
     (start .args .spare .now) (heap-ok .heap-ok .ensures) (slots-ok .slots-ok .ensures) (if1 .if1 .left) (sound2 .sound2 .ensures)
     (sound .sound .ensures) (c .if2 .left)
 

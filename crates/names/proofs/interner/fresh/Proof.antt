@@ -1,6 +1,7 @@
 -- `names::interner::fresh` meets its contract. Assumes nothing.
 use mathlib.Core.Path.{sym}
 use lib.Seq.{length-take-le}
+use Rattle.vm.specs.Machine.{lendNames}
 use Rattle.vm.specs.Told.{saidOf, holding}
 use Rattle.names.proofs.Interning.{fresh-18, fresh-2, pushed-in, fresh-done}
 use borrow.Author.Needs.{needs}
@@ -13,8 +14,8 @@ returns c =
     let if1 = c .before in
     let room = if1 .before in
     let start = room .before .before .before .before .before in
-    λ rest frames. rw (c .refused .ensures)
-    (fresh-18 (holding rest (start .args .gc) (start .args .strings)) frames _ _ _ _ (start .pre .0) _ (start .pre .1)
+    λ rest l. rw (c .refused .ensures)
+    (fresh-18 (holding rest (start .args .gc) (start .args .strings)) (lendNames _ _ _ l) _ (start .pre .0) _ (start .pre .1)
     (rw (room .room .ensures) at (if1 .if1 .taken)))
 
 returns-2 : tie.Need-returns-2
@@ -25,8 +26,8 @@ returns-2 c =
     let if1 = store .before .before in
     let room = if1 .before in
     let start = room .before .before .before .before .before in
-    λ rest frames. rw (c .refused2 .ensures)
-    (fresh-2 (holding rest (start .args .gc) (start .args .strings)) frames _ _ _ _ (start .pre .0) _ (start .pre .1)
+    λ rest l. rw (c .refused2 .ensures)
+    (fresh-2 (holding rest (start .args .gc) (start .args .strings)) (lendNames _ _ _ l) _ (start .pre .0) _ (start .pre .1)
     (rw (room .room .ensures) at (if1 .if1 .left)) _ _ (store .store .ensures) (enum-told .enum-told .given .1))
 
 slice-reshare-prefix-insert : tie.Need-slice-reshare-prefix-insert
@@ -52,7 +53,7 @@ returns-3 c =
     let if1 = store .before .before in
     let room = if1 .before in
     let start = room .before .before .before .before .before in
-    λ rest frames. fresh-done (holding rest (start .args .gc) (start .args .strings)) frames _ _ _ _ (start .pre .0) _ (start .pre .1)
+    λ rest l. fresh-done (holding rest (start .args .gc) (start .args .strings)) (lendNames _ _ _ l) _ (start .pre .0) _ (start .pre .1)
     (rw (room .room .ensures) at (if1 .if1 .left)) _ _ (store .store .ensures) _ _ (address .address .given .1) _ _ _ (insert .insert .ensures)
 
 pub fresh-spec : {M : Type 1} → statement M

@@ -7,7 +7,8 @@ use lib.Seq.{length-take-le}
 use Rattle.program.specs.Image.{failing}
 use Rattle.vm.specs.declared.State.{State}
 use Rattle.vm.specs.Machine.{found, nameTests}
-use Rattle.vm.specs.Told.{saidOf, holding, lentOf}
+use Rattle.vm.specs.Machine.{Lent, lendNames}
+use Rattle.vm.specs.Told.{saidOf, holding}
 use Rattle.names.specs.Interned.{Belong, testedOf}
 use Rattle.names.proofs.Tests.{belong}
 use Rattle.names.proofs.Interning.{intern-refused, intern-told}
@@ -19,11 +20,11 @@ use Rattle.names.proofs.interner.intern.Tie as tie
 start-of : tie.After-enum-told → tie.Start
 start-of c = c .before .before .before .before .before .before .before .before .before .before
 
-fine : (c : tie.After-enum-told) (rest : State) (frames : List ℕ)
+fine : (c : tie.After-enum-told) (rest : State) (l : Lent)
     → none ≡ failing (nameTests (found (holding rest (start-of c .args .gc) (start-of c .args .strings))
-    (lentOf frames (start-of c .args .heap .now) (start-of c .args .slots .now) (start-of c .args .spare .now))))
+    (lendNames (start-of c .args .heap .now) (start-of c .args .slots .now) (start-of c .args .spare .now) l)))
 unfolding testedOf start-of
-fine c rest frames = rw (c .enum-told .given .1) at (c .before .before .check .ensures rest frames)
+fine c rest l = rw (c .enum-told .given .1) at (c .before .before .check .ensures rest l)
 
 belongs : (c : tie.After-enum-told)
     → Belong (start-of c .args .gc) (start-of c .args .strings) (start-of c .args .heap .now) (start-of c .args .slots .now)
@@ -67,9 +68,9 @@ returns c =
     let why = c .before .before in
     let check = why .before .before in
     let start = check .before .before .before .before .before .before .before .before in
-    λ rest frames. rw (c .refused .ensures)
-    (intern-refused (holding rest (start .args .gc) (start .args .strings)) frames _ _ _ _ _
-    (rw (why .why .given .1) at (check .check .ensures rest frames)))
+    λ rest l. rw (c .refused .ensures)
+    (intern-refused (holding rest (start .args .gc) (start .args .strings)) (lendNames _ _ _ l) _ _
+    (rw (why .why .given .1) at (check .check .ensures rest l)))
 
 returns-2 : tie.Need-returns-2
 unfolding start-of
@@ -79,8 +80,8 @@ returns-2 c =
     let hash = get .before .before .before in
     let enum-told = hash .before in
     let start = enum-told .before .before .before .before .before .before .before .before .before .before in
-    λ rest frames. intern-told (holding rest (start .args .gc) (start .args .strings)) frames _ _ _ _ (fine enum-told rest frames) _
-    (hash .hash .ensures) _ _ (known .known .ensures rest frames) (get .get .ensures)
+    λ rest l. intern-told (holding rest (start .args .gc) (start .args .strings)) (lendNames _ _ _ l) _ (fine enum-told rest l) _
+    (hash .hash .ensures) _ _ (known .known .ensures rest l) (get .get .ensures)
 
 pub intern-spec : {M : Type 1} → statement M
 intern-spec =

@@ -9,7 +9,8 @@ use lib.Seq.{length-take-le}
 use Rattle.program.specs.Image.{failing}
 use Rattle.vm.specs.declared.State.{State}
 use Rattle.vm.specs.Machine.{found, nameTests, smallOk}
-use Rattle.vm.specs.Told.{saidOf, holding, lentOf}
+use Rattle.vm.specs.Machine.{Lent, lendNames}
+use Rattle.vm.specs.Told.{saidOf, holding}
 use Rattle.names.specs.Interned.{Belong, testedOf}
 use Rattle.names.proofs.SmallOk.{small-says}
 use Rattle.names.proofs.Tests.{belong}
@@ -22,11 +23,11 @@ use Rattle.names.proofs.interner.intern_small.Tie as tie
 start-of : tie.After-enum-told → tie.Start
 start-of c = c .before .before .before .before .before .before .before .before .before
 
-fine : (c : tie.After-enum-told) (rest : State) (frames : List ℕ)
+fine : (c : tie.After-enum-told) (rest : State) (l : Lent)
     → none ≡ failing (nameTests (found (holding rest (start-of c .args .gc) (start-of c .args .strings))
-    (lentOf frames (start-of c .args .heap .now) (start-of c .args .slots .now) (start-of c .args .spare .now))))
+    (lendNames (start-of c .args .heap .now) (start-of c .args .slots .now) (start-of c .args .spare .now) l)))
 unfolding testedOf start-of
-fine c rest frames = rw (c .enum-told .given .1) at (c .before .before .check .ensures rest frames)
+fine c rest l = rw (c .enum-told .given .1) at (c .before .before .check .ensures rest l)
 
 belongs : (c : tie.After-enum-told)
     → Belong (start-of c .args .gc) (start-of c .args .strings) (start-of c .args .heap .now) (start-of c .args .slots .now)
@@ -45,8 +46,8 @@ returns c =
     let small-ok = if1 .before in
     let enum-told = small-ok .before in
     let start = enum-told .before .before .before .before .before .before .before .before .before in
-    λ rest frames. rw (c .refused2 .ensures)
-    (small-17 (holding rest (start .args .gc) (start .args .strings)) frames _ _ _ _ _ (fine enum-told rest frames)
+    λ rest l. rw (c .refused2 .ensures)
+    (small-17 (holding rest (start .args .gc) (start .args .strings)) (lendNames _ _ _ l) _ _ (fine enum-told rest l)
     (sym (small-ok .small-ok .ensures) ∙ not-true _ (if1 .if1 .taken)))
 
 slice-reshare-prefix-get-small : tie.Need-slice-reshare-prefix-get-small
@@ -108,9 +109,9 @@ returns-2 c =
     let why = c .before .before in
     let check = why .before .before in
     let start = check .before .before .before .before .before .before .before in
-    λ rest frames. rw (c .refused .ensures)
-    (small-refused (holding rest (start .args .gc) (start .args .strings)) frames _ _ _ _ _ _
-    (rw (why .why .given .1) at (check .check .ensures rest frames)))
+    λ rest l. rw (c .refused .ensures)
+    (small-refused (holding rest (start .args .gc) (start .args .strings)) (lendNames _ _ _ l) _ _ _
+    (rw (why .why .given .1) at (check .check .ensures rest l)))
 
 returns-3 : tie.Need-returns-3
 unfolding start-of
@@ -122,9 +123,9 @@ returns-3 c =
     let if1 = small-hash .before in
     let enum-told = if1 .before .before in
     let start = enum-told .before .before .before .before .before .before .before .before .before in
-    λ rest frames. small-told (holding rest (start .args .gc) (start .args .strings)) frames _ _ _ _ _ (fine enum-told rest frames)
+    λ rest l. small-told (holding rest (start .args .gc) (start .args .strings)) (lendNames _ _ _ l) _ _ (fine enum-told rest l)
     (small if1) _ (small-hash .small-hash .ensures) _ (small-bytes _ _ (small if1) _ _ refl (store8 .store8 .ensures)) _ _
-    (known .known .ensures rest frames) (get-small .get-small .ensures)
+    (known .known .ensures rest l) (get-small .get-small .ensures)
 
 pub intern-small-spec : {M : Type 1} → statement M
 intern-small-spec =

@@ -1,5 +1,6 @@
 -- `run::instruction::alloc` meets its contract. Assumes nothing.
 use mathlib.Core.Path.{sym}
+use Rattle.vm.specs.Machine.{lendHeap}
 use Rattle.run.proofs.Turns.{turn-no-block, turn-block}
 use borrow.Author.Needs.{needs}
 use Rattle.run.proofs.instruction.alloc.Statement.{statement}
@@ -11,8 +12,8 @@ returns c =
     let new = alloc .before .before in
     let from-number = new .before in
     let start = from-number .before .before in
-    λ t frames slots spare deep. sym
-    (turn-no-block t _ _ frames _ slots spare deep (start .pre .3) _ _ _ _ _
+    λ s l fit. sym
+    (turn-no-block s _ _ (lendHeap _ l) fit _ _ _ _ _
     (rw (new .new .ensures .0, new .new .ensures .1, from-number .from-number .ensures) at (alloc .alloc .ensures)) (c .enum-told .given .1))
 
 returns-2 : tie.Need-returns-2
@@ -22,8 +23,8 @@ returns-2 c =
     let new = alloc .before .before in
     let from-number = new .before in
     let start = from-number .before .before in
-    λ t frames slots spare deep. sym
-    (turn-block t _ _ frames _ slots spare deep (start .pre .3) _ _ _ _ _
+    λ s l fit. sym
+    (turn-block s _ _ (lendHeap _ l) fit _ _ _ _ _
     (rw (new .new .ensures .0, new .new .ensures .1, from-number .from-number .ensures) at (alloc .alloc .ensures)) _ _ (address .address .given .1))
 
 pub alloc-spec : {M : Type 1} → statement M

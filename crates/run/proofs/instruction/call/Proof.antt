@@ -1,5 +1,6 @@
 -- `run::instruction::call` meets its contract. Assumes nothing.
 use mathlib.Core.Path.{sym}
+use Rattle.vm.specs.Machine.{lendFrames}
 use Rattle.run.proofs.Turns.{turn-deep, turn-call}
 use borrow.Author.Needs.{needs}
 use Rattle.run.proofs.instruction.call.Statement.{statement}
@@ -7,13 +8,11 @@ use Rattle.run.proofs.instruction.call.Tie as tie
 
 returns : tie.Need-returns
 returns c =
-    let start = c .before in
-    λ t regs heap slots spare sound. sym (turn-deep t _ regs _ heap slots spare (start .pre) sound _ (c .if1 .taken))
+    λ s regs l fit. sym (turn-deep s _ regs (lendFrames _ l) fit _ (c .if1 .taken))
 
 returns-2 : tie.Need-returns-2
 returns-2 c =
-    let start = c .before in
-    λ t regs heap slots spare sound. sym (turn-call t _ regs _ heap slots spare (start .pre) sound _ (c .if1 .left))
+    λ s regs l fit. sym (turn-call s _ regs (lendFrames _ l) fit _ (c .if1 .left))
 
 pub call-spec : {M : Type 1} → statement M
 call-spec =

@@ -1,6 +1,7 @@
 -- `run::instruction::load` meets its contract. Assumes nothing.
 use mathlib.Core.Path.{sym, _∙_}
 use native.Mathlib.Omega.{arith}
+use Rattle.vm.specs.Machine.{lendHeap}
 use Rattle.run.proofs.Turns.{place-room, turn-load-outside, turn-load}
 use borrow.Author.Needs.{needs}
 use Rattle.run.proofs.instruction.load.Statement.{statement}
@@ -15,8 +16,8 @@ returns : tie.Need-returns
 returns c =
     let reach = c .before .before in
     let start = reach .before .before in
-    λ t frames slots spare deep. sym
-    (turn-load-outside t _ _ frames _ slots spare deep (start .pre .2) _ _ (sym (reach .reach .ensures) ∙ c .enum-told .given .1) _)
+    λ s l fit. sym
+    (turn-load-outside s _ _ (lendHeap _ l) fit _ _ (sym (reach .reach .ensures) ∙ c .enum-told .given .1) _)
 
 load8-requires : tie.Need-load8-requires
 load8-requires c κs =
@@ -31,8 +32,8 @@ returns-2 c =
     let i = load8 .before .before in
     let reach = i .before .before in
     let start = reach .before .before in
-    λ t frames slots spare deep. rw (c .to .ensures, load8 .load8 .ensures)
-    (sym (turn-load t _ _ frames _ slots spare deep (start .pre .2) _ _ _ (sym (reach .reach .ensures) ∙ i .i .given .1) _))
+    λ s l fit. rw (c .to .ensures, load8 .load8 .ensures)
+    (sym (turn-load s _ _ (lendHeap _ l) fit _ _ _ (sym (reach .reach .ensures) ∙ i .i .given .1) _))
 
 pub load-spec : {M : Type 1} → statement M
 load-spec =

@@ -2,6 +2,7 @@
 use mathlib.Core.Path.{_≡_, sym}
 use Prim.Native.Nat.{suc, _-_}
 use native.Mathlib.Omega.{arith}
+use Rattle.vm.specs.Machine.{lendFrames}
 use Rattle.run.proofs.Turns.{turn-underflow, turn-ret}
 use borrow.Author.Needs.{needs}
 use Rattle.run.proofs.instruction.ret.Statement.{statement}
@@ -9,15 +10,14 @@ use Rattle.run.proofs.instruction.ret.Tie as tie
 
 returns : tie.Need-returns
 returns c =
-    let start = c .before .before .before in
-    λ t regs heap slots spare sound. sym (turn-underflow t _ regs _ heap slots spare (start .pre) sound (c .if1 .taken))
+    λ s regs l fit. sym (turn-underflow s _ regs (lendFrames _ l) fit (c .if1 .taken))
 
 returns-2 : tie.Need-returns-2
 returns-2 c =
     let if1 = c .before .before .before in
     let start = if1 .before .before .before in
     let deeper : start .args .at .depth ≡ suc (start .args .at .depth - 1) = omega (arith, if1 .if1 .left) in
-    λ t regs heap slots spare sound. rw (c .wrapping-add-u64 .ensures) (sym (turn-ret t _ regs _ heap slots spare (start .pre) sound _ deeper))
+    λ s regs l fit. rw (c .wrapping-add-u64 .ensures) (sym (turn-ret s _ regs (lendFrames _ l) fit _ deeper))
 
 pub ret-spec : {M : Type 1} → statement M
 ret-spec =

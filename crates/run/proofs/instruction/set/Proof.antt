@@ -7,7 +7,7 @@ use Rattle.run.proofs.instruction.set.Tie as tie
 
 returns : tie.Need-returns
 returns c =
-    λ t frames heap slots spare deep sound. rw (c .to .ensures) (sym (turn-set t _ _ frames heap slots spare deep sound _ _))
+    λ s l fit. rw (c .to .ensures) (sym (turn-set s _ _ l fit _ _))
 
 pub set-spec : {M : Type 1} → statement M
 set-spec =

@@ -1,6 +1,7 @@
 -- `run::instruction::store` meets its contract. Assumes nothing.
 use mathlib.Core.Path.{sym, _∙_}
 use native.Mathlib.Omega.{arith}
+use Rattle.vm.specs.Machine.{lendHeap}
 use Rattle.run.proofs.Turns.{place-room, turn-store-outside, turn-store}
 use borrow.Author.Needs.{needs}
 use Rattle.run.proofs.instruction.store.Statement.{statement}
@@ -15,8 +16,8 @@ returns : tie.Need-returns
 returns c =
     let reach = c .before .before in
     let start = reach .before .before in
-    λ t regs frames slots spare deep. sym
-    (turn-store-outside t _ regs frames _ slots spare deep (start .pre .1) _ _ (sym (reach .reach .ensures) ∙ c .enum-told .given .1) _)
+    λ s regs l fit. sym
+    (turn-store-outside s _ regs (lendHeap _ l) fit _ _ (sym (reach .reach .ensures) ∙ c .enum-told .given .1) _)
 
 store8-requires : tie.Need-store8-requires
 store8-requires c κs =
@@ -31,8 +32,8 @@ returns-2 c =
     let i = store8 .before .before .before in
     let reach = i .before .before in
     let start = reach .before .before in
-    λ t regs frames slots spare deep. rw (c .to .ensures, store8 .store8 .ensures)
-    (sym (turn-store t _ regs frames _ slots spare deep (start .pre .1) _ _ _ (sym (reach .reach .ensures) ∙ i .i .given .1) _))
+    λ s regs l fit. rw (c .to .ensures, store8 .store8 .ensures)
+    (sym (turn-store s _ regs (lendHeap _ l) fit _ _ _ (sym (reach .reach .ensures) ∙ i .i .given .1) _))
 
 pub store-spec : {M : Type 1} → statement M
 store-spec =

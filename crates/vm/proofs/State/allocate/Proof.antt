@@ -5,6 +5,7 @@ use borrow.Author.Tests.{not-true, not-false, ltb-true}
 use Rattle.memory.proofs.Tests.{both}
 use Rattle.gc.specs.Lent.{outcome}
 use Rattle.gc.proofs.Soundness as Soundness
+use Rattle.vm.specs.Machine.{lendHeap}
 use Rattle.vm.specs.Told.{saidOf}
 use Rattle.vm.proofs.Buffers.{heap-low}
 use Rattle.vm.proofs.Replies.{allocate-10, allocate-13, allocate-9, allocate-told}
@@ -17,8 +18,8 @@ unfolding saidOf
 returns c =
     let if1 = c .before in
     let heap-ok = if1 .before in
-    λ frames slots spare. rw (c .refused .ensures)
-    (allocate-10 _ frames _ slots spare _ _ _ (sym (heap-ok .heap-ok .ensures) ∙ not-true _ (if1 .if1 .taken)))
+    λ l. rw (c .refused .ensures)
+    (allocate-10 _ (lendHeap _ l) _ _ _ (sym (heap-ok .heap-ok .ensures) ∙ not-true _ (if1 .if1 .taken)))
 
 returns-2 : tie.Need-returns-2
 unfolding saidOf
@@ -27,8 +28,8 @@ returns-2 c =
     let is-alignment = if2 .before in
     let if1 = is-alignment .before in
     let heap-ok = if1 .before in
-    λ frames slots spare. rw (c .refused2 .ensures)
-    (allocate-13 _ frames _ slots spare _ _ _ (sym (heap-ok .heap-ok .ensures) ∙ not-false _ (if1 .if1 .left))
+    λ l. rw (c .refused2 .ensures)
+    (allocate-13 _ (lendHeap _ l) _ _ _ (sym (heap-ok .heap-ok .ensures) ∙ not-false _ (if1 .if1 .left))
     (rw (← is-alignment .is-alignment .ensures) (not-true _ (if2 .if2 .taken))))
 
 returns-3 : tie.Need-returns-3
@@ -40,8 +41,8 @@ returns-3 c =
     let is-alignment = if2 .before in
     let if1 = is-alignment .before in
     let heap-ok = if1 .before in
-    λ frames slots spare. rw (c .refused3 .ensures)
-    (allocate-9 _ frames _ slots spare _ _ _ (sym (heap-ok .heap-ok .ensures) ∙ not-false _ (if1 .if1 .left))
+    λ l. rw (c .refused3 .ensures)
+    (allocate-9 _ (lendHeap _ l) _ _ _ (sym (heap-ok .heap-ok .ensures) ∙ not-false _ (if1 .if1 .left))
     (rw (← is-alignment .is-alignment .ensures) (not-false _ (if2 .if2 .left))) (sym (sound .sound .ensures) ∙ not-true _ (if3 .if3 .taken)))
 
 from-number-requires : tie.Need-from-number-requires
@@ -71,9 +72,9 @@ returns-4 c =
     let is-alignment = if2 .before in
     let if1 = is-alignment .before in
     let heap-ok = if1 .before in
-    λ frames slots spare.
+    λ l.
     rw (c .allocated .ensures)
-    (allocate-told _ frames _ slots spare _ _ _ (sym (heap-ok .heap-ok .ensures) ∙ not-false _ (if1 .if1 .left))
+    (allocate-told _ (lendHeap _ l) _ _ _ (sym (heap-ok .heap-ok .ensures) ∙ not-false _ (if1 .if1 .left))
     (rw (← is-alignment .is-alignment .ensures) (not-false _ (if2 .if2 .left))) (sym (sound .sound .ensures) ∙ not-false _ (if3 .if3 .left))
     (outcome (alloc .alloc .result) (alloc .alloc .last .1 .1 .0))
     (rw (new .new .ensures .0, new .new .ensures .1, from-number .from-number .ensures) at (alloc .alloc .ensures)))

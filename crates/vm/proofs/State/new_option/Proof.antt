@@ -4,6 +4,7 @@ use native.Mathlib.Omega.{arith}
 use borrow.Author.Tests.{not-true, not-false}
 use Rattle.gc.specs.Lent.{outcome}
 use Rattle.gc.proofs.Soundness as Soundness
+use Rattle.vm.specs.Machine.{lendHeap}
 use Rattle.vm.specs.Told.{saidOf}
 use Rattle.vm.proofs.Buffers.{heap-low}
 use Rattle.vm.proofs.Replies.{option-10, option-9, option-none, option-some}
@@ -16,8 +17,8 @@ unfolding saidOf
 returns c =
     let if1 = c .before in
     let heap-ok = if1 .before in
-    λ frames slots spare. rw (c .refused .ensures)
-    (option-10 _ frames _ slots spare _ (sym (heap-ok .heap-ok .ensures) ∙ not-true _ (if1 .if1 .taken)))
+    λ l. rw (c .refused .ensures)
+    (option-10 _ (lendHeap _ l) _ (sym (heap-ok .heap-ok .ensures) ∙ not-true _ (if1 .if1 .taken)))
 
 returns-2 : tie.Need-returns-2
 unfolding saidOf
@@ -26,8 +27,8 @@ returns-2 c =
     let sound = if2 .before in
     let if1 = sound .before in
     let heap-ok = if1 .before in
-    λ frames slots spare. rw (c .refused2 .ensures)
-    (option-9 _ frames _ slots spare _ (sym (heap-ok .heap-ok .ensures) ∙ not-false _ (if1 .if1 .left))
+    λ l. rw (c .refused2 .ensures)
+    (option-9 _ (lendHeap _ l) _ (sym (heap-ok .heap-ok .ensures) ∙ not-false _ (if1 .if1 .left))
     (sym (sound .sound .ensures) ∙ not-true _ (if2 .if2 .taken)))
 
 add-t12 : tie.Need-add-t12
@@ -53,8 +54,8 @@ returns-3 c =
     let sound = if2 .before in
     let if1 = sound .before in
     let heap-ok = if1 .before in
-    λ frames slots spare. rw (enum-told .enum-told .given .1)
-    (option-none _ frames _ slots spare (sym (heap-ok .heap-ok .ensures) ∙ not-false _ (if1 .if1 .left))
+    λ l. rw (enum-told .enum-told .given .1)
+    (option-none _ (lendHeap _ l) (sym (heap-ok .heap-ok .ensures) ∙ not-false _ (if1 .if1 .left))
     (sym (sound .sound .ensures) ∙ not-false _ (if2 .if2 .left)))
 
 returns-4 : tie.Need-returns-4
@@ -66,8 +67,8 @@ returns-4 c =
     let sound = if2 .before in
     let if1 = sound .before in
     let heap-ok = if1 .before in
-    λ frames slots spare. rw (c .allocated .ensures, value .value .given .1)
-    (option-some _ frames _ slots spare (sym (heap-ok .heap-ok .ensures) ∙ not-false _ (if1 .if1 .left))
+    λ l. rw (c .allocated .ensures, value .value .given .1)
+    (option-some _ (lendHeap _ l) (sym (heap-ok .heap-ok .ensures) ∙ not-false _ (if1 .if1 .left))
     (sym (sound .sound .ensures) ∙ not-false _ (if2 .if2 .left)) _ (outcome (boxed .boxed .result) (boxed .boxed .last .1 .1 .1 .0))
     (boxed .boxed .ensures))
 

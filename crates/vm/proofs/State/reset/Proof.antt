@@ -1,6 +1,7 @@
 -- `vm::State::reset` meets its contract. Assumes nothing.
 use mathlib.Core.Path.{sym, _∙_}
 use borrow.Author.Tests.{not-true, not-false}
+use Rattle.vm.specs.Machine.{lendFrames}
 use Rattle.vm.specs.Told.{saidOf}
 use Rattle.vm.proofs.Buffers.{frames-room}
 use Rattle.vm.proofs.Replies.{reset-refused, reset-done}
@@ -13,8 +14,8 @@ unfolding saidOf
 returns c =
     let if1 = c .before in
     let frames-ok = if1 .before in
-    λ heap slots spare. rw (c .refused .ensures)
-    (reset-refused _ _ heap slots spare (sym (frames-ok .frames-ok .ensures) ∙ not-true _ (if1 .if1 .taken)))
+    λ l. rw (c .refused .ensures)
+    (reset-refused _ (lendFrames _ l) (sym (frames-ok .frames-ok .ensures) ∙ not-true _ (if1 .if1 .taken)))
 
 slice-write-frames : tie.Need-slice-write-frames
 slice-write-frames c =
@@ -25,7 +26,7 @@ returns-2 : tie.Need-returns-2
 unfolding saidOf
 returns-2 c =
     let frames-ok = c .before in
-    λ heap slots spare. reset-done _ _ heap slots spare (sym (frames-ok .frames-ok .ensures) ∙ not-false _ (c .if1 .left))
+    λ l. reset-done _ (lendFrames _ l) (sym (frames-ok .frames-ok .ensures) ∙ not-false _ (c .if1 .left))
 
 pub reset-spec : {M : Type 1} → statement M
 reset-spec =

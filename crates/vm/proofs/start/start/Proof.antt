@@ -74,7 +74,7 @@ returns-2 c =
       heap-ok .heap-ok .ensures,
       slots-ok .slots-ok .ensures,
     ) at (verdict-fine _ _ (sym (enum-told .enum-told .given .1) ∙ check .check .ensures))) _
-    (begin .begin .ensures (start .args .slots .now) (start .args .spare .now))
+    (begin .begin .ensures (lent-to start))
 
 pub start-spec : {M : Type 1} → statement M
 start-spec =
