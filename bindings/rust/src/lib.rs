@@ -11,7 +11,7 @@
 //! use girzhanok::{End, Image, State};
 //!
 //! // IDivI r1, r0, 100; Halt: a point for each whole unit
-//! let image = Image { code: &[0x0000_0064_0000_0107, 59], ..Image::EMPTY };
+//! let image = Image { words: &[11, 11, 11, 11, 11, 11, 11, 11, 11, 0x0000_0064_0000_0107, 59] };
 //! let (mut frames, mut heap) = ([0; 4], vec![0; 4096]);
 //! let (slots, spare) = ([0; 64], [0; 64]);
 //!
@@ -43,40 +43,19 @@ mod numbers;
 pub use limits::*;
 pub use numbers::{End, Refusal};
 
-/// What a machine is lent to run.
+/// What a machine is lent to run: the ends of nine sections, then the sections in a row.
+///
+/// They are code; globals; of the Switch tables the first keys, where the entries of each end, all entries; the same of the Lookup tables; of
+/// each of these its default. An end is the place in `words` behind the section's last word, so the ends go up from 9 to the number of words.
 #[derive(Clone, Copy, Debug)]
 pub struct Image<'a> {
-    /// Instruction words.
-    pub code: &'a [u64],
-    /// Values that LoadG loads.
-    pub globals: &'a [u64],
-    /// The tables of Switch; their entries are places in the code.
-    pub switches: Tables<'a>,
-    /// The tables of Lookup; their entries are values.
-    pub lookups: Tables<'a>,
-    /// Of each Lookup table its default.
-    pub defaults: &'a [u64],
-}
-
-/// Tables of one kind, all entries in a row.
-#[derive(Clone, Copy, Debug)]
-pub struct Tables<'a> {
-    /// Of each table its first key.
-    pub firsts: &'a [u64],
-    /// Of each table where its entries end; they begin where those of the one before end.
-    pub ends: &'a [u64],
-    /// The entries of all tables.
-    pub entries: &'a [u64],
-}
-
-impl Tables<'static> {
-    /// No table.
-    pub const EMPTY: Self = Tables { firsts: &[], ends: &[], entries: &[] };
+    /// Ends and sections.
+    pub words: &'a [u64],
 }
 
 impl Image<'static> {
     /// No code, no globals, no tables.
-    pub const EMPTY: Self = Image { code: &[], globals: &[], switches: Tables::EMPTY, lookups: Tables::EMPTY, defaults: &[] };
+    pub const EMPTY: Self = Image { words: &[9; 9] };
 }
 
 /// What a block is allocated as.
@@ -133,24 +112,8 @@ impl State {
                 state.words.as_mut_ptr(),
                 STATE_WORDS,
                 base,
-                image.code.as_ptr(),
-                image.code.len(),
-                image.globals.as_ptr(),
-                image.globals.len(),
-                image.switches.firsts.as_ptr(),
-                image.switches.firsts.len(),
-                image.switches.ends.as_ptr(),
-                image.switches.ends.len(),
-                image.switches.entries.as_ptr(),
-                image.switches.entries.len(),
-                image.lookups.firsts.as_ptr(),
-                image.lookups.firsts.len(),
-                image.lookups.ends.as_ptr(),
-                image.lookups.ends.len(),
-                image.lookups.entries.as_ptr(),
-                image.lookups.entries.len(),
-                image.defaults.as_ptr(),
-                image.defaults.len(),
+                image.words.as_ptr(),
+                image.words.len(),
                 frames.as_mut_ptr(),
                 frames.len(),
                 heap.as_mut_ptr(),
@@ -178,30 +141,14 @@ impl State {
                 self.words.as_mut_ptr(),
                 STATE_WORDS,
                 budget,
-                image.code.as_ptr(),
-                image.code.len(),
-                image.globals.as_ptr(),
-                image.globals.len(),
-                image.switches.firsts.as_ptr(),
-                image.switches.firsts.len(),
-                image.switches.ends.as_ptr(),
-                image.switches.ends.len(),
-                image.switches.entries.as_ptr(),
-                image.switches.entries.len(),
-                image.lookups.firsts.as_ptr(),
-                image.lookups.firsts.len(),
-                image.lookups.ends.as_ptr(),
-                image.lookups.ends.len(),
-                image.lookups.entries.as_ptr(),
-                image.lookups.entries.len(),
-                image.defaults.as_ptr(),
-                image.defaults.len(),
+                &mut pc,
+                &mut steps,
+                image.words.as_ptr(),
+                image.words.len(),
                 frames.as_mut_ptr(),
                 frames.len(),
                 heap.as_mut_ptr(),
                 heap.len(),
-                &mut pc,
-                &mut steps,
             )
         };
         match End::from_number(number) {

@@ -1,7 +1,7 @@
 // The machine's calls for C and Rust: include/girzhanok.h says what each one takes and writes. A call on too few words is refused with 10.
 ghost use mathlib.Core.Path.{_≡_};
 ghost use mathlib.Core.List.{[], _∷_};
-ghost use Rattle.program.specs.Image.{tablesOf, imageOf};
+ghost use Rattle.program.specs.Words.{imageIn};
 ghost use Rattle.vm.specs.Machine.{Lent, lendFrames, lendHeap, lendRun, lendNames, run, setting, reset, putPc, putReg, host, allocate, option, intern, internSmall};
 ghost use Rattle.vm.specs.Told.{lentOf};
 ghost use Rattle.girzhanok.specs.Served.{servedOf, given, serve, serveStart};
@@ -29,15 +29,7 @@ use words::unpack_table;
 pub extern "C" fn girzhanok_start(
     state: &mut [u64],
     base: u64,
-    code: &[u64],
-    globals: &[u64],
-    switch_firsts: &[u64],
-    switch_ends: &[u64],
-    switch_entries: &[u64],
-    lookup_firsts: &[u64],
-    lookup_ends: &[u64],
-    lookup_entries: &[u64],
-    defaults: &[u64],
+    image: &[u64],
     frames: &mut [u64],
     heap: &mut [u8],
     slots: &[u64],
@@ -45,30 +37,12 @@ pub extern "C" fn girzhanok_start(
 ) -> u64
     ensures { λ r. ⌜ servedOf r (now (state .exit)) []
         (lentOf (now (frames .exit)) (now (heap .exit)) (now (slots .entry)) (now (spare .entry)))
-        ≡ serveStart (imageOf (now (code .entry)) (now (globals .entry))
-        (tablesOf (now («switch_firsts» .entry)) (now («switch_ends» .entry)) (now («switch_entries» .entry)))
-        (tablesOf (now («lookup_firsts» .entry)) (now («lookup_ends» .entry)) (now («lookup_entries» .entry))) (now (defaults .entry)))
-        base (now (state .entry)) (lentOf (now (frames .entry)) (now (heap .entry)) (now (slots .entry)) (now (spare .entry))) ⌝ }
+        ≡ serveStart (imageIn (now (image .entry))) base (now (state .entry)) (lentOf (now (frames .entry)) (now (heap .entry)) (now (slots .entry)) (now (spare .entry))) ⌝ }
 {
     if state.len() < STATE_WORDS {
         return Refusal::SIZE;
     }
-    let called = start::start(
-        base,
-        code,
-        globals,
-        switch_firsts,
-        switch_ends,
-        switch_entries,
-        lookup_firsts,
-        lookup_ends,
-        lookup_entries,
-        defaults,
-        frames,
-        heap,
-        slots,
-        spare,
-    );
+    let called = start::start(base, image, frames, heap, slots, spare);
     answer(called, state)
 }
 
@@ -76,47 +50,22 @@ pub extern "C" fn girzhanok_start(
 pub extern "C" fn girzhanok_run(
     state: &mut [u64],
     budget: Steps,
-    code: &[u64],
-    globals: &[u64],
-    switch_firsts: &[u64],
-    switch_ends: &[u64],
-    switch_entries: &[u64],
-    lookup_firsts: &[u64],
-    lookup_ends: &[u64],
-    lookup_entries: &[u64],
-    defaults: &[u64],
-    frames: &mut [u64],
-    heap: &mut [u8],
     pc: &mut usize,
     steps: &mut Steps,
+    image: &[u64],
+    frames: &mut [u64],
+    heap: &mut [u8],
 ) -> u64
     ensures { λ r. ⌜ ((l : Lent)
         → servedOf r (now (state .exit)) (now (pc .exit) ∷ now (steps .exit) ∷ [])
         (lendRun (now (frames .exit)) (now (heap .exit)) l)
-        ≡ serve (run (imageOf (now (code .entry)) (now (globals .entry))
-        (tablesOf (now («switch_firsts» .entry)) (now («switch_ends» .entry)) (now («switch_entries» .entry)))
-        (tablesOf (now («lookup_firsts» .entry)) (now («lookup_ends» .entry)) (now («lookup_entries» .entry))) (now (defaults .entry)))
-        budget) (now (state .entry)) (now (pc .entry) ∷ now (steps .entry) ∷ [])
+        ≡ serve (run (imageIn (now (image .entry))) budget) (now (state .entry)) (now (pc .entry) ∷ now (steps .entry) ∷ [])
         (lendRun (now (frames .entry)) (now (heap .entry)) l)) ⌝ }
 {
     if state.len() < STATE_WORDS {
         return Refusal::SIZE;
     }
-    let ran = run::run(
-        unpack(state),
-        budget,
-        code,
-        globals,
-        switch_firsts,
-        switch_ends,
-        switch_entries,
-        lookup_firsts,
-        lookup_ends,
-        lookup_entries,
-        defaults,
-        frames,
-        heap,
-    );
+    let ran = run::run(unpack(state), budget, image, frames, heap);
     answer_run(ran, state, pc, steps)
 }
 

@@ -55,37 +55,35 @@ fn registers(state: State) {
     io::write_all(STDOUT_FILENO, b"\n");
 }
 
-// A run of code that has no globals and no tables.
+// An image is the ends of its nine sections, then the sections: here code alone, but for one table.
 fn run(
     label: &[u8],
     state: State,
     budget: Steps,
-    code: &[u64],
+    image: &[u64],
     frames: &mut [u64],
     heap: &mut [u8],
 ) -> State {
-    let none: [u64; 0] = [];
-    let ran = run::run(
-        state,
-        budget,
-        code,
-        &none,
-        &none,
-        &none,
-        &none,
-        &none,
-        &none,
-        &none,
-        &none,
-        frames,
-        heap,
-    );
+    let ran = run::run(state, budget, image, frames, heap);
     ended(label, ran)
 }
 
 // LoadI r0, 7; IAddI r1, r0, -1; Halt
 fn runs(state: State, frames: &mut [u64; 4], heap: &mut [u8; 8192]) -> State {
-    let code: [u64; 3] = [0x0000_0007_0000_001b, 0xffff_ffff_0000_0101, 59];
+    let code: [u64; 12] = [
+        12,
+        12,
+        12,
+        12,
+        12,
+        12,
+        12,
+        12,
+        12,
+        0x0000_0007_0000_001b,
+        0xffff_ffff_0000_0101,
+        59,
+    ];
     let s = run(b"run", state, 10, &code, frames, heap);
     registers(s);
     let s = run(b"run from the Halt on", s, 10, &code, frames, heap);
@@ -100,7 +98,19 @@ fn runs(state: State, frames: &mut [u64; 4], heap: &mut [u8; 8192]) -> State {
     );
     registers(s);
     // IDiv r1, r0, r2; Halt
-    let stops: [u64; 2] = [0x0000_0000_0200_0106, 59];
+    let stops: [u64; 11] = [
+        11,
+        11,
+        11,
+        11,
+        11,
+        11,
+        11,
+        11,
+        11,
+        0x0000_0000_0200_0106,
+        59,
+    ];
     let s = run(
         b"run that divides by zero",
         s.set_pc(0),
@@ -117,37 +127,20 @@ fn runs(state: State, frames: &mut [u64; 4], heap: &mut [u8; 8192]) -> State {
 
 // A run of one word and a Halt.
 fn run_word(label: &[u8], word: u64, state: State, frames: &mut [u64], heap: &mut [u8]) {
-    let code: [u64; 2] = [word, 59];
+    let code: [u64; 11] = [11, 11, 11, 11, 11, 11, 11, 11, 11, word, 59];
     run(label, state, 1, &code, frames, heap);
 }
 
 // A run with a table whose one target is place 1 of code that has no such place.
 fn run_table(label: &[u8], state: State, frames: &mut [u64], heap: &mut [u8]) {
-    let halt: [u64; 1] = [59];
-    let none: [u64; 0] = [];
-    let one: [u64; 1] = [1];
-    let ran = run::run(
-        state,
-        1,
-        &halt,
-        &none,
-        &one,
-        &one,
-        &one,
-        &none,
-        &none,
-        &none,
-        &none,
-        frames,
-        heap,
-    );
-    ended(label, ran);
+    let image: [u64; 13] = [10, 10, 11, 12, 13, 13, 13, 13, 13, 59, 1, 1, 1];
+    run(label, state, 1, &image, frames, heap);
 }
 
 // What a run refuses of state and buffers, then of the image, in the order of the numbers.
 fn refused_runs(state: State, frames: &mut [u64; 4], heap: &mut [u8; 8192]) {
-    let halt: [u64; 1] = [59];
-    let nop: [u64; 1] = [60];
+    let halt: [u64; 10] = [10, 10, 10, 10, 10, 10, 10, 10, 10, 59];
+    let nop: [u64; 10] = [10, 10, 10, 10, 10, 10, 10, 10, 10, 60];
     let mut deep = state;
     deep.depth = frames.len() + 1;
     run(
@@ -267,24 +260,8 @@ fn begin(
     slots: &[u64],
     spare: &[u64],
 ) -> State {
-    let halt: [u64; 1] = [59];
-    let none: [u64; 0] = [];
-    let called = start::start(
-        base,
-        &halt,
-        &none,
-        &none,
-        &none,
-        &none,
-        &none,
-        &none,
-        &none,
-        &none,
-        frames,
-        heap,
-        slots,
-        spare,
-    );
+    let halt: [u64; 10] = [10, 10, 10, 10, 10, 10, 10, 10, 10, 59];
+    let called = start::start(base, &halt, frames, heap, slots, spare);
     said(label, called)
 }
 

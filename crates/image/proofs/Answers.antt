@@ -17,29 +17,14 @@ use Rattle.text.specs.Lines.{linesOf}
 use Rattle.text.specs.Sections.{sectionIn}
 use Rattle.text.specs.Names.{namesOf}
 use Rattle.report.specs.Report.{longest, reportOf, refusalOf}
-use Rattle.program.specs.Image.{Image, Tables, imageOf}
+use Rattle.program.specs.Image.{Image}
 use Rattle.vm.specs.Machine.{Lent, Machine, Answer, ended, value, done, refused, Called, run, perform, Started, declined, begun}
 use Rattle.vm.specs.declared.State.{State}
 use Rattle.vm.specs.declared.Reply.{Reply}
 use Rattle.vm.proofs.Reply as replies
 use Rattle.vm.specs.Told.{machineOf, answerOf, saidOf, startedOn}
-use Rattle.image.specs.Runner.{imageWith, imageIn, Interned, internAll, WritesText, summaryOf, replyText, runText, answerText}
+use Rattle.image.specs.Runner.{imageWith, Interned, internAll, WritesText, summaryOf, replyText, runText, answerText}
 use Rattle.image.specs.Runner.{internedText, namedText, startedText}
-
--- ---- the image's parts
-
-module _ (s code globals : List ℕ) (switches lookups : Tables) (defaults : List ℕ)
-    (e : imageOf code globals switches lookups defaults ≡ imageIn s) where
-  pub with-globals : (g : List ℕ) → imageOf code g switches lookups defaults ≡ imageWith g s
-  with-globals g =
-      let c = ap (λ (x : Image). x .code) e in
-      let a = ap (λ (x : Image). x .switches) e in
-      let b = ap (λ (x : Image). x .lookups) e in
-      let d = ap (λ (x : Image). x .defaults) e in
-      rw (c, a, b, d) refl
-
-  pub globals-are : globals ≡ sectionIn Globals s
-  globals-are = ap (λ (x : Image). x .globals) e
 
 -- ---- the start
 

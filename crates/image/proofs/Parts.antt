@@ -1,20 +1,14 @@
 -- The parts of the runner's buffers that an image takes. Assumes nothing.
-use mathlib.Core.Path.{_≡_, refl, sym, ap}
+use mathlib.Core.Path.{_≡_, refl, sym, ap, _∙_}
 use Prim.Native.Nat.{ℕ, zero, suc, _*_, _≤_}
 use mathlib.Core.List.{List, _∷_}
 use native.Mathlib.Omega.{arith}
-use lib.ListN.{length, take, replicate, length-replicate}
+use lib.ListN.{length, take, replicate, length-take, length-replicate}
 use lib.Seq.{length-take-le}
-use Rattle.memory.specs.Lists.{over}
-use Rattle.memory.proofs.Over.{length-over, take-over}
 use Rattle.gc.specs.Lent.{pageSize}
 use Rattle.text.specs.declared.Head.{Head}
-use Rattle.text.specs.declared.sections.Section.the-variants.{Code, Globals, SwitchFirsts, SwitchEnds, SwitchEntries, LookupFirsts}
-use Rattle.text.specs.declared.sections.Section.the-variants.{LookupDefaults, LookupEnds, LookupEntries}
-use Rattle.text.specs.Sections.{sectionIn}
-use Rattle.program.specs.Image.{tablesOf, imageOf}
 use Rattle.vm.specs.Told.{lentOf}
-use Rattle.image.specs.Runner.{imageIn, lentFor}
+use Rattle.image.specs.Runner.{lentFor}
 
 -- the first n of a buffer
 pub record Part (xs buf : List ℕ) (n : ℕ) : Type 0 where
@@ -22,13 +16,12 @@ pub record Part (xs buf : List ℕ) (n : ℕ) : Type 0 where
   pub long : n ≡ length (take n buf)
   pub is : take n buf ≡ xs
 
--- a section laid over k zeros
-pub section-part : {xs after : List ℕ} {n : ℕ} (k : ℕ) → n ≡ length xs → after ≡ over xs (replicate k 0) → n ≤ k → Part xs after n
-section-part {xs} {after} {n} k count laid room =
-    let zeros : length (replicate {A = ℕ} k 0) ≡ k = length-replicate k 0 in
-    let fits : length xs ≤ length (replicate {A = ℕ} k 0) = omega arith in
-    let inside : n ≤ length after = rw (laid, length-over) (omega arith) in
-    record { inside = inside; long = sym (length-take-le n after inside); is = rw (laid, count) (take-over xs (replicate k 0) fits) }
+-- an image's words
+pub words-part : {xs buf : List ℕ} {n : ℕ} → n ≡ length xs → take n buf ≡ xs → Part xs buf n
+words-part {xs} {buf} {n} count is =
+    let long : length (take n buf) ≡ n = ap (λ (x : List ℕ). length x) is ∙ sym count in
+    let most = sym (length-take n buf) ∙ long in
+    record { inside = omega arith; long = sym long; is = is }
 
 -- zeros, and the first of them
 take-zeros : (n k : ℕ) → n ≤ k → take {A = ℕ} n (replicate k 0) ≡ replicate n 0
@@ -42,15 +35,6 @@ zeros-part {n} k room =
     let zeros : length (replicate {A = ℕ} k 0) ≡ k = length-replicate k 0 in
     let inside : n ≤ length (replicate {A = ℕ} k 0) = omega arith in
     record { inside = inside; long = sym (length-take-le n (replicate k 0) inside); is = take-zeros n k room }
-
-pub image-of-parts : {code globals sf se st lf le lv ld : List ℕ} {words count switches targets lookups values : ℕ} (s : List ℕ)
-    → Part (sectionIn Code s) code words → Part (sectionIn Globals s) globals count
-    → Part (sectionIn SwitchFirsts s) sf switches → Part (sectionIn SwitchEnds s) se switches → Part (sectionIn SwitchEntries s) st targets
-    → Part (sectionIn LookupFirsts s) lf lookups → Part (sectionIn LookupEnds s) le lookups → Part (sectionIn LookupEntries s) lv values
-    → Part (sectionIn LookupDefaults s) ld lookups
-    → imageOf (take words code) (take count globals) (tablesOf (take switches sf) (take switches se) (take targets st))
-    (tablesOf (take lookups lf) (take lookups le) (take values lv)) (take lookups ld) ≡ imageIn s
-image-of-parts s a b c d e f g h i = rw (a .is, b .is, c .is, d .is, e .is, f .is, g .is, h .is, i .is) refl
 
 pub lent-of-parts : {frames heap slots spare : List ℕ} (h : Head)
     → Part (replicate (h .frames) 0) frames (h .frames) → Part (replicate (h .pages * pageSize) 0) heap (h .pages * pageSize)

@@ -20,7 +20,6 @@ use Rattle.program.specs.Image.{Image, tablesOf, imageOf}
 use Rattle.vm.specs.declared.State.{State}
 use Rattle.vm.specs.Machine.{Lent, Machine, Answer, ended, value, done, refused, Called, run, host, intern, perform, Started, declined, begun, start}
 use Rattle.vm.specs.Told.{lentOf}
-use Rattle.image.specs.declared.TableCounts.{TableCounts}
 
 -- ---- the image that a text says
 
@@ -34,18 +33,16 @@ abbrev pub imageIn : List ℕ → Image
 imageIn s = imageWith (sectionIn Globals s) s
 
 -- 10: 'The runner: 8 pages, 4,096 words, 4,096 frames'; what else it has no room for is past the machine's own limits
-abbrev pub fits : Head → ℕ → ℕ → TableCounts → TableCounts → Bool
-fits h words globals switches lookups =
+abbrev pub fits : Head → (words globals switches targets lookups values : ℕ) → Bool
+fits h words globals switches targets lookups values =
     (leb (h .pages) 8 && (leb (h .frames) 4096 && leb (h .slots) 4096))
     && ((leb words 4096 && leb globals 4096)
-    && ((leb (switches .tables) 256 && leb (switches .entries) 4096)
-    && (leb (lookups .tables) 256 && leb (lookups .entries) 4096)))
+    && ((leb switches 256 && leb targets 4096) && (leb lookups 256 && leb values 4096)))
 
 unfoldable pub roomFor : Head → List ℕ → Bool
 roomFor h s =
-    fits h (length (sectionIn Code s)) (length (sectionIn Globals s))
-    (record { tables = length (sectionIn SwitchFirsts s); entries = length (sectionIn SwitchEntries s) })
-    (record { tables = length (sectionIn LookupFirsts s); entries = length (sectionIn LookupEntries s) })
+    fits h (length (sectionIn Code s)) (length (sectionIn Globals s)) (length (sectionIn SwitchFirsts s)) (length (sectionIn SwitchEntries s))
+    (length (sectionIn LookupFirsts s)) (length (sectionIn LookupEntries s))
 
 -- the buffers that the header asks for
 abbrev pub lentFor : Head → Lent

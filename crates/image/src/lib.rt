@@ -1,25 +1,26 @@
 // The image runner: from the text of an image to the text of its report.
 ghost use mathlib.Core.Path.{_≡_};
 ghost use mathlib.Core.Bool.{true};
-ghost use mathlib.Core.List.{List};
+ghost use mathlib.Core.List.{List, [], _∷_};
 ghost use Prim.Native.Nat.{ℕ, _+_, _*_, _≤_, _<_, _^_};
-ghost use lib.ListN.{length};
-ghost use Rattle.memory.specs.Lists.{over};
+ghost use lib.ListN.{length, take};
+ghost use Rattle.memory.specs.Lists.{over, Written};
 ghost use Rattle.anomaly.specs.Table.{numberOfEnd, pcOfEnd, stepsOfEnd};
 ghost use Rattle.report.specs.Report.{longest, reportOf};
 ghost use Rattle.text.specs.Lines.{linesOf};
 ghost use Rattle.text.specs.Text.{textOk, headOf};
 ghost use Rattle.text.specs.Names.{namesOf};
 ghost use Rattle.text.specs.Sections.{sectionIn};
-ghost use Rattle.program.specs.Image.{imageOf, tablesOf};
 ghost use Rattle.vm.specs.Machine.{Lent, lendNames, start, run};
 ghost use Rattle.vm.specs.Told.{lentOf, machineOf, answerOf, saidOf, told};
+ghost use Rattle.image.specs.Joined.{joined};
 ghost use Rattle.image.specs.Runner as Runner;
-ghost use Rattle.image.specs.Runner.{imageIn, lentFor, fits, roomFor, internAll, replyText, summaryOf, runText, startedText, imageText, WritesText};
+ghost use Rattle.image.specs.Runner.{imageIn, lentFor, roomFor, internAll, replyText, summaryOf, runText, startedText, imageText, WritesText};
 use anomaly::End;
 use anomaly::Refusal;
 use anomaly::Steps;
 use gc::PAGE_SIZE;
+use program::HEADER;
 use report::LONGEST;
 use report::Summary;
 use run::Ran;
@@ -48,6 +49,9 @@ const MAX_GLOBALS: usize = 4096;
 const MAX_TABLES: usize = 256;
 
 const MAX_ENTRIES: usize = 4096;
+
+// The words of an image whose every section is as long as it may be.
+const MAX_IMAGE: usize = HEADER + MAX_WORDS + MAX_GLOBALS + 2 * MAX_ENTRIES + 5 * MAX_TABLES;
 
 const MAX_HEAP: usize = MAX_PAGES as usize * PAGE_SIZE;
 
@@ -141,20 +145,11 @@ fn put_reply(out: &mut [u8], reply: Reply) -> usize
     report::put_refusal(out, 0, why.number())
 }
 
-// Starts an image, interns its names, runs it and writes the report. Its parts are as long as its sections, the buffers as the header
-// asks for.
+// Starts an image, interns its names, runs it and writes the report. `words` are its sections joined, the buffers as the header asks for.
 fn rate(
     input: &[u8],
     head: Head,
-    code: &[u64],
-    globals: &mut [u64],
-    switch_firsts: &[u64],
-    switch_ends: &[u64],
-    switch_entries: &[u64],
-    lookup_firsts: &[u64],
-    lookup_ends: &[u64],
-    lookup_entries: &[u64],
-    defaults: &[u64],
+    words: &mut [u64],
     frames: &mut [u64],
     heap: &mut [u8],
     slots: &mut [u64],
@@ -166,42 +161,90 @@ fn rate(
         × (32768 ≤ length (now name))
         × (longest ≤ length (now out))
         × (head .budget < 2 ^ 32)
-        × ((imageOf (now code) (now globals) (tablesOf (now «switch_firsts») (now «switch_ends») (now «switch_entries»))
-        (tablesOf (now «lookup_firsts») (now «lookup_ends») (now «lookup_entries»)) (now defaults))
-        ≡ imageIn (now input))
+        × (now words ≡ joined (imageIn (now input)))
         × (lentOf (now frames) (now heap) (now slots) (now spare) ≡ lentFor head) ⌝ }
     ensures { λ r. ⌜ WritesText (now (out .entry))
         (startedText (now (input .entry)) head (start (imageIn (now (input .entry))) (head .base) (lentFor head))) (now (out .exit)) r ⌝ }
 {
-    let begun = start::start(
-        head.base,
-        code,
-        globals,
-        switch_firsts,
-        switch_ends,
-        switch_entries,
-        lookup_firsts,
-        lookup_ends,
-        lookup_entries,
-        defaults,
-        frames,
-        heap,
-        slots,
-        spare,
-    );
+    let begun = start::start(head.base, words, frames, heap, slots, spare);
     let reply = begun.reply;
     let Reply::Done = reply else {
         return put_reply(out, reply);
     };
-    let named = intern_names(input, begun.state, globals, heap, slots, spare, name);
+    let first = words[0] as usize;
+    let end = words[1] as usize;
+    let named = intern_names(
+        input,
+        begun.state,
+        &mut words[first..end],
+        heap,
+        slots,
+        spare,
+        name,
+    );
     let reply = named.reply;
     let Reply::Done = reply else {
         return put_reply(out, reply);
     };
     let budget = head.budget as Steps;
-    let ran = run::run(
-        named.state,
-        budget,
+    let ran = run::run(named.state, budget, words, frames, heap);
+    put_ran(out, ran)
+}
+
+// The numbers of a section from a place on; the place behind them.
+fn put_section(input: &[u8], section: Section, words: &mut [u64], at: usize) -> usize
+    requires { ⌜ at + length (sectionIn section (now input)) ≤ length (now words) ⌝ }
+    ensures { λ r. ⌜ Written (now (words .entry)) at (sectionIn section (now (input .entry))) (now (words .exit)) r ⌝ }
+{
+    let n = sections::gather(input, section, &mut words[at..]);
+    at + n
+}
+
+fn put_ends(
+    words: &mut [u64],
+    code: usize,
+    globals: usize,
+    switch_firsts: usize,
+    switch_ends: usize,
+    switch_entries: usize,
+    lookup_firsts: usize,
+    lookup_ends: usize,
+    lookup_entries: usize,
+    defaults: usize,
+)
+    requires { ⌜ 9 ≤ length (now words) ⌝ }
+    ensures { λ r. ⌜ now (words .exit)
+        ≡ over (code ∷ globals ∷ «switch_firsts» ∷ «switch_ends» ∷ «switch_entries» ∷ «lookup_firsts» ∷ «lookup_ends» ∷ «lookup_entries» ∷ defaults ∷ [])
+        (now (words .entry)) ⌝ }
+{
+    words[0] = code as u64;
+    words[1] = globals as u64;
+    words[2] = switch_firsts as u64;
+    words[3] = switch_ends as u64;
+    words[4] = switch_entries as u64;
+    words[5] = lookup_firsts as u64;
+    words[6] = lookup_ends as u64;
+    words[7] = lookup_entries as u64;
+    words[8] = defaults as u64;
+}
+
+// An image's sections behind their ends; the number of its words.
+fn join(input: &[u8], words: &mut [u64]) -> usize
+    requires { ⌜ length (joined (imageIn (now input))) ≤ length (now words) ⌝ }
+    ensures { λ r. ⌜ (r ≡ length (joined (imageIn (now (input .entry)))))
+        × (take r (now (words .exit)) ≡ joined (imageIn (now (input .entry)))) ⌝ }
+{
+    let code = put_section(input, Section::Code, words, HEADER);
+    let globals = put_section(input, Section::Globals, words, code);
+    let switch_firsts = put_section(input, Section::SwitchFirsts, words, globals);
+    let switch_ends = put_section(input, Section::SwitchEnds, words, switch_firsts);
+    let switch_entries = put_section(input, Section::SwitchEntries, words, switch_ends);
+    let lookup_firsts = put_section(input, Section::LookupFirsts, words, switch_entries);
+    let lookup_ends = put_section(input, Section::LookupEnds, words, lookup_firsts);
+    let lookup_entries = put_section(input, Section::LookupEntries, words, lookup_ends);
+    let defaults = put_section(input, Section::LookupDefaults, words, lookup_entries);
+    put_ends(
+        words,
         code,
         globals,
         switch_firsts,
@@ -211,123 +254,58 @@ fn rate(
         lookup_ends,
         lookup_entries,
         defaults,
-        frames,
-        heap,
     );
-    put_ran(out, ran)
+    defaults
 }
 
-// How many numbers the sections of one kind of tables have.
-struct TableCounts {
-    tables: usize,
-    entries: usize,
-}
-
-// The tables of one kind in a text, by the sections that hold their firsts, ends and entries.
-fn gather_tables(
-    input: &[u8],
-    in_firsts: Section,
-    in_ends: Section,
-    in_entries: Section,
-    firsts: &mut [u64],
-    ends: &mut [u64],
-    entries: &mut [u64],
-) -> TableCounts
-    ensures { λ r. ⌜ (r .tables ≡ length (sectionIn «in_firsts» (now (input .entry))))
-        × (r .entries ≡ length (sectionIn «in_entries» (now (input .entry))))
-        × (now (firsts .exit) ≡ over (sectionIn «in_firsts» (now (input .entry))) (now (firsts .entry)))
-        × (now (ends .exit) ≡ over (sectionIn «in_ends» (now (input .entry))) (now (ends .entry)))
-        × (now (entries .exit) ≡ over (sectionIn «in_entries» (now (input .entry))) (now (entries .entry))) ⌝ }
+// How many numbers a section has.
+fn count(input: &[u8], section: Section) -> usize
+    ensures { λ r. ⌜ r ≡ length (sectionIn section (now (input .entry))) ⌝ }
 {
-    let tables = sections::gather(input, in_firsts, firsts);
-    sections::gather(input, in_ends, ends);
-    let count = sections::gather(input, in_entries, entries);
-    TableCounts {
-        tables,
-        entries: count,
-    }
+    let mut none: [u64; 0] = [];
+    sections::gather(input, section, &mut none)
 }
 
 // Whether the runner has room for an image; if not, the answer is 10.
-fn room_for(
-    head: Head,
-    words: usize,
-    globals: usize,
-    switches: TableCounts,
-    lookups: TableCounts,
-) -> bool
-    ensures { λ r. ⌜ r ≡ fits head words globals switches lookups ⌝ }
+fn room_for(input: &[u8], head: Head) -> bool
+    ensures { λ r. ⌜ r ≡ roomFor head (now (input .entry)) ⌝ }
 {
+    let words = count(input, Section::Code);
+    let globals = count(input, Section::Globals);
+    let switches = count(input, Section::SwitchFirsts);
+    let targets = count(input, Section::SwitchEntries);
+    let lookups = count(input, Section::LookupFirsts);
+    let values = count(input, Section::LookupEntries);
     ((head.pages <= MAX_PAGES)
         & ((head.frames <= MAX_FRAMES as u64) & (head.slots <= MAX_SLOTS as u64)))
         & (((words <= MAX_WORDS) & (globals <= MAX_GLOBALS))
-            & (((switches.tables <= MAX_TABLES) & (switches.entries <= MAX_ENTRIES))
-                & ((lookups.tables <= MAX_TABLES) & (lookups.entries <= MAX_ENTRIES))))
+            & (((switches <= MAX_TABLES) & (targets <= MAX_ENTRIES))
+                & ((lookups <= MAX_TABLES) & (values <= MAX_ENTRIES))))
 }
 
-// An image gathered into buffers of the runner's limits, and rated.
+// An image joined in a buffer of the runner's limits, and rated.
 fn answer_image(input: &[u8], head: Head, out: &mut [u8]) -> usize
     requires { ⌜ (textOk (now input) ≡ true) × (head ≡ headOf (now input)) × (longest ≤ length (now out)) ⌝ }
     ensures { λ r. ⌜ WritesText (now (out .entry)) (imageText (roomFor head (now (input .entry))) (now (input .entry)) head) (now (out .exit))
         r ⌝ }
 {
-    let mut code = [0u64; MAX_WORDS];
-    let mut globals = [0u64; MAX_GLOBALS];
-    let mut switch_firsts = [0u64; MAX_TABLES];
-    let mut switch_ends = [0u64; MAX_TABLES];
-    let mut switch_entries = [0u64; MAX_ENTRIES];
-    let mut lookup_firsts = [0u64; MAX_TABLES];
-    let mut lookup_ends = [0u64; MAX_TABLES];
-    let mut lookup_entries = [0u64; MAX_ENTRIES];
-    let mut defaults = [0u64; MAX_TABLES];
-    let words = sections::gather(input, Section::Code, &mut code);
-    let count = sections::gather(input, Section::Globals, &mut globals);
-    let switches = gather_tables(
-        input,
-        Section::SwitchFirsts,
-        Section::SwitchEnds,
-        Section::SwitchEntries,
-        &mut switch_firsts,
-        &mut switch_ends,
-        &mut switch_entries,
-    );
-    let lookups = gather_tables(
-        input,
-        Section::LookupFirsts,
-        Section::LookupEnds,
-        Section::LookupEntries,
-        &mut lookup_firsts,
-        &mut lookup_ends,
-        &mut lookup_entries,
-    );
-    sections::gather(input, Section::LookupDefaults, &mut defaults);
-    if !room_for(head, words, count, switches, lookups) {
+    if !room_for(input, head) {
         return report::put_refusal(out, 0, Refusal::SIZE);
     }
-    let switch_count = switches.tables;
-    let target_count = switches.entries;
-    let lookup_count = lookups.tables;
-    let value_count = lookups.entries;
     let frame_count = head.frames as usize;
     let heap_size = head.pages as usize * PAGE_SIZE;
     let slot_count = head.slots as usize;
+    let mut words = [0u64; MAX_IMAGE];
     let mut frames = [0u64; MAX_FRAMES];
     let mut heap = [0u8; MAX_HEAP];
     let mut slots = [0u64; MAX_SLOTS];
     let mut spare = [0u64; MAX_SLOTS];
     let mut name = [0u8; MAX_NAME];
+    let total = join(input, &mut words);
     rate(
         input,
         head,
-        &code[..words],
-        &mut globals[..count],
-        &switch_firsts[..switch_count],
-        &switch_ends[..switch_count],
-        &switch_entries[..target_count],
-        &lookup_firsts[..lookup_count],
-        &lookup_ends[..lookup_count],
-        &lookup_entries[..value_count],
-        &defaults[..lookup_count],
+        &mut words[..total],
         &mut frames[..frame_count],
         &mut heap[..heap_size],
         &mut slots[..slot_count],

@@ -32,7 +32,7 @@ module _ (kind subject first r : ℕ) (e : r ≡ minus subject first) where
 
 -- ---- the ends of tables go up
 
-rising-to : (from : ℕ) (es : List ℕ) (to : ℕ) → rising from es to ≡ true → from ≤ to
+pub rising-to : (from : ℕ) (es : List ℕ) (to : ℕ) → rising from es to ≡ true → from ≤ to
 unfolding rising
 rising-to from [] to h = let e = eqb-true from to h in omega arith
 rising-to from (e ∷ es) to h =
@@ -40,13 +40,13 @@ rising-to from (e ∷ es) to h =
     let rest = rising-to e es to (both (leb from e) _ h .1) in
     omega arith
 
-rising-at : (from : ℕ) (es : List ℕ) (to k : ℕ) → rising from es to ≡ true → k < length es → getD es k 0 ≤ to
+pub rising-at : (from : ℕ) (es : List ℕ) (to k : ℕ) → rising from es to ≡ true → k < length es → getD es k 0 ≤ to
 unfolding rising
 rising-at from [] to k h l = absurd (not-suc-le-zero l)
 rising-at from (e ∷ es) to zero h l = rising-to e es to (both (leb from e) _ h .1)
 rising-at from (e ∷ es) to (suc k) h l = rising-at e es to k (both (leb from e) _ h .1) (le-of-suc-le-suc l)
 
-rising-on : (from : ℕ) (es : List ℕ) (to k : ℕ) → rising from es to ≡ true → suc k < length es → getD es k 0 ≤ getD es (suc k) 0
+pub rising-on : (from : ℕ) (es : List ℕ) (to k : ℕ) → rising from es to ≡ true → suc k < length es → getD es k 0 ≤ getD es (suc k) 0
 unfolding rising
 rising-on from [] to k h l = absurd (not-suc-le-zero l)
 rising-on from (e ∷ []) to k h l = absurd (not-suc-le-zero (le-of-suc-le-suc l))

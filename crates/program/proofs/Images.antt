@@ -36,21 +36,21 @@ module _ (n : ℕ) (xs : List ℕ) (i : ℕ) (g : below n (drop i xs) ≡ below 
   unfolding below
   below-end h = past Bool (below n) xs i (below n xs) g h
 
-module _ (ends : List ℕ) (to from i : ℕ) (g : rising from (drop i ends) to ≡ rising 0 ends to) where
+module _ (start : ℕ) (ends : List ℕ) (to from i : ℕ) (g : rising from (drop i ends) to ≡ rising start ends to) where
   abbrev onwards : List ℕ → Bool
   onwards es = rising from es to
 
-  pub rising-fails : i < length ends → getD ends i 0 < from → false ≡ rising 0 ends to
+  pub rising-fails : i < length ends → getD ends i 0 < from → false ≡ rising start ends to
   unfolding rising
-  rising-fails h k = rw (lt-leb _ _ k) at (here Bool onwards ends i (rising 0 ends to) g h)
+  rising-fails h k = rw (lt-leb _ _ k) at (here Bool onwards ends i (rising start ends to) g h)
 
-  pub rising-on : i < length ends → from ≤ getD ends i 0 → rising (getD ends i 0) (drop (i + 1) ends) to ≡ rising 0 ends to
+  pub rising-on : i < length ends → from ≤ getD ends i 0 → rising (getD ends i 0) (drop (i + 1) ends) to ≡ rising start ends to
   unfolding rising
-  rising-on h k = rw (le-leb _ _ k) at (here Bool onwards ends i (rising 0 ends to) g h)
+  rising-on h k = rw (le-leb _ _ k) at (here Bool onwards ends i (rising start ends to) g h)
 
-  pub rising-end : length ends ≤ i → eqb from to ≡ rising 0 ends to
+  pub rising-end : length ends ≤ i → eqb from to ≡ rising start ends to
   unfolding rising
-  rising-end h = past Bool onwards ends i (rising 0 ends to) g h
+  rising-end h = past Bool onwards ends i (rising start ends to) g h
 
 module _ (n : Counts) (code : List ℕ) (i : ℕ) (g : failing (wordTests n (drop i code)) ≡ failing (wordTests n code)) where
   abbrev tested : List ℕ → Option ℕ

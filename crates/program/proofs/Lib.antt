@@ -2,3 +2,4 @@
 pub mod Tests
 pub mod Images
 pub mod Asks
+pub mod Layouts

@@ -2,13 +2,13 @@
 // has one call site: the compiler then puts them all into the loop.
 ghost use mathlib.Core.Path.{_≡_};
 ghost use mathlib.Core.Bool.{true, cond};
-ghost use mathlib.Core.List.{List};
-ghost use Prim.Native.Nat.{ℕ, _<_};
+ghost use Prim.Native.Nat.{_<_};
 ghost use lib.ListN.{length, getD};
 ghost use lib.Dec.{ltb};
 ghost use Rattle.op.specs.Operands.{okOp};
 ghost use Rattle.op.specs.Decode.{decodeOf};
-ghost use Rattle.program.specs.Image.{tablesOf, imageOf, tablesOk, startOf, entriesOf};
+ghost use Rattle.program.specs.Image.{tablesOf, tablesOk, startOf, entriesOf};
+ghost use Rattle.program.specs.Words.{cut, Ordered, Readable};
 ghost use Rattle.program.specs.Effect.{divided, jumpIf, within, slot, switched, effectOf, wordEffect};
 use crate::Effect;
 use anomaly::Anomaly;
@@ -66,9 +66,13 @@ fn assert(b: bool) -> Effect
     }
 }
 
-fn load_global(dst: usize, idx: usize, globals: &[u64]) -> Effect
-    ensures { λ r. ⌜ r ≡ within idx (length (now (globals .entry))) (Effect.Set dst (getD (now (globals .entry)) idx 0)) ⌝ }
+fn load_global(dst: usize, idx: usize, image: &[u64]) -> Effect
+    requires { ⌜ Ordered (now image) ⌝ }
+    ensures { λ r. ⌜ r ≡ within idx (length (cut (now (image .entry)) .globals)) (Effect.Set dst (getD (cut (now (image .entry)) .globals) idx 0)) ⌝ }
 {
+    let from = image[0] as usize;
+    let to = image[1] as usize;
+    let globals = &image[from..to];
     if idx < globals.len() {
         Effect::Set(dst, globals[idx])
     } else {
@@ -120,19 +124,19 @@ fn find(
     }
 }
 
-fn switch(
-    kind: u64,
-    subject: u64,
-    table: usize,
-    firsts: &[u64],
-    ends: &[u64],
-    entries: &[u64],
-) -> Effect
-    requires { ⌜ tablesOk (tablesOf (now firsts) (now ends) (now entries)) ≡ true ⌝ }
-    ensures { λ r. ⌜ r ≡ within table (length (now (firsts .entry)))
-        (switched (entriesOf (tablesOf (now (firsts .entry)) (now (ends .entry)) (now (entries .entry))) table)
-        (slot kind subject (getD (now (firsts .entry)) table 0))) ⌝ }
+fn switch(kind: u64, subject: u64, table: usize, image: &[u64]) -> Effect
+    requires { ⌜ Ordered (now image) × (tablesOk (cut (now image) .switches) ≡ true) ⌝ }
+    ensures { λ r. ⌜ r
+        ≡ within table (length (cut (now (image .entry)) .switches .firsts)) (switched (entriesOf (cut (now (image .entry)) .switches) table)
+        (slot kind subject (getD (cut (now (image .entry)) .switches .firsts) table 0))) ⌝ }
 {
+    let a = image[1] as usize;
+    let b = image[2] as usize;
+    let c = image[3] as usize;
+    let d = image[4] as usize;
+    let firsts = &image[a..b];
+    let ends = &image[b..c];
+    let entries = &image[c..d];
     if firsts.len() <= table {
         return Effect::Stop(UNLISTED);
     }
@@ -143,21 +147,22 @@ fn switch(
     }
 }
 
-fn lookup(
-    kind: u64,
-    dst: usize,
-    subject: u64,
-    table: usize,
-    firsts: &[u64],
-    ends: &[u64],
-    entries: &[u64],
-    defaults: &[u64],
-) -> Effect
-    requires { ⌜ (tablesOk (tablesOf (now firsts) (now ends) (now entries)) ≡ true) × (length (now defaults) ≡ length (now firsts)) ⌝ }
-    ensures { λ r. ⌜ r ≡ within table (length (now (firsts .entry)))
-        (Effect.Set dst (getD (entriesOf (tablesOf (now (firsts .entry)) (now (ends .entry)) (now (entries .entry))) table)
-        (slot kind subject (getD (now (firsts .entry)) table 0)) (getD (now (defaults .entry)) table 0))) ⌝ }
+fn lookup(kind: u64, dst: usize, subject: u64, table: usize, image: &[u64]) -> Effect
+    requires { ⌜ Ordered (now image) × (tablesOk (cut (now image) .lookups) ≡ true)
+        × (length (cut (now image) .defaults) ≡ length (cut (now image) .lookups .firsts)) ⌝ }
+    ensures { λ r. ⌜ r
+        ≡ within table (length (cut (now (image .entry)) .lookups .firsts)) (Effect.Set dst (getD (entriesOf (cut (now (image .entry)) .lookups) table)
+        (slot kind subject (getD (cut (now (image .entry)) .lookups .firsts) table 0)) (getD (cut (now (image .entry)) .defaults) table 0))) ⌝ }
 {
+    let a = image[4] as usize;
+    let b = image[5] as usize;
+    let c = image[6] as usize;
+    let d = image[7] as usize;
+    let e = image[8] as usize;
+    let firsts = &image[a..b];
+    let ends = &image[b..c];
+    let entries = &image[c..d];
+    let defaults = &image[d..e];
     if firsts.len() <= table {
         return Effect::Stop(UNLISTED);
     }
@@ -168,27 +173,9 @@ fn lookup(
     }
 }
 
-fn effect_of(
-    op: Op,
-    regs: &[u64; 32],
-    globals: &[u64],
-    switch_firsts: &[u64],
-    switch_ends: &[u64],
-    switch_entries: &[u64],
-    lookup_firsts: &[u64],
-    lookup_ends: &[u64],
-    lookup_entries: &[u64],
-    defaults: &[u64],
-) -> Effect
-    requires { ⌜ okOp op × (tablesOk (tablesOf (now «switch_firsts») (now «switch_ends») (now «switch_entries»)) ≡ true)
-        × (tablesOk (tablesOf (now «lookup_firsts») (now «lookup_ends») (now «lookup_entries»)) ≡ true)
-        × (length (now defaults) ≡ length (now «lookup_firsts»)) ⌝ }
-    ensures { λ r. ⌜ ((code : List ℕ)
-        → r
-        ≡ effectOf (imageOf code (now (globals .entry))
-        (tablesOf (now («switch_firsts» .entry)) (now («switch_ends» .entry)) (now («switch_entries» .entry)))
-        (tablesOf (now («lookup_firsts» .entry)) (now («lookup_ends» .entry)) (now («lookup_entries» .entry))) (now (defaults .entry)))
-        (now (regs .entry)) op) ⌝ }
+fn effect_of(op: Op, regs: &[u64; 32], image: &[u64]) -> Effect
+    requires { ⌜ okOp op × Readable (now image) ⌝ }
+    ensures { λ r. ⌜ r ≡ effectOf (cut (now (image .entry))) (now (regs .entry)) op ⌝ }
 {
     match op {
         Op::IAdd { dst, lhs, rhs } => Effect::Set(
@@ -261,7 +248,7 @@ fn effect_of(
         ),
         Op::Mov { dst, src } => Effect::Set(dst, reg(regs, src)),
         Op::LoadI { dst, value } => Effect::Set(dst, value),
-        Op::LoadG { dst, idx } => load_global(dst, idx, globals),
+        Op::LoadG { dst, idx } => load_global(dst, idx, image),
         Op::Jmp { target } => Effect::Goto(target),
         Op::JmpT { cond, target } => jump_if(Value(reg(regs, cond)).as_bool(), target),
         Op::JmpF { cond, target } => jump_if(!Value(reg(regs, cond)).as_bool(), target),
@@ -279,29 +266,13 @@ fn effect_of(
             kind,
             subject,
             table,
-        } => switch(
-            kind,
-            reg(regs, subject),
-            table,
-            switch_firsts,
-            switch_ends,
-            switch_entries,
-        ),
+        } => switch(kind, reg(regs, subject), table, image),
         Op::Lookup {
             kind,
             dst,
             subject,
             table,
-        } => lookup(
-            kind,
-            dst,
-            reg(regs, subject),
-            table,
-            lookup_firsts,
-            lookup_ends,
-            lookup_entries,
-            defaults,
-        ),
+        } => lookup(kind, dst, reg(regs, subject), table, image),
         Op::Tail { func } => Effect::Goto(func),
         Op::Call { func } => Effect::Call(func),
         Op::CastToInt { dst, src } => Effect::Set(dst, Value(reg(regs, src)).f64_to_int().0),
@@ -327,42 +298,13 @@ fn effect_of(
 }
 
 // The effect of a word. The loader has refused a word that is no instruction.
-pub fn word_effect(
-    w: u64,
-    regs: &[u64; 32],
-    globals: &[u64],
-    switch_firsts: &[u64],
-    switch_ends: &[u64],
-    switch_entries: &[u64],
-    lookup_firsts: &[u64],
-    lookup_ends: &[u64],
-    lookup_entries: &[u64],
-    defaults: &[u64],
-) -> Effect
-    requires { ⌜ (tablesOk (tablesOf (now «switch_firsts») (now «switch_ends») (now «switch_entries»)) ≡ true)
-        × (tablesOk (tablesOf (now «lookup_firsts») (now «lookup_ends») (now «lookup_entries»)) ≡ true)
-        × (length (now defaults) ≡ length (now «lookup_firsts»)) ⌝ }
-    ensures { λ r. ⌜ ((code : List ℕ)
-        → r
-        ≡ wordEffect (imageOf code (now (globals .entry))
-        (tablesOf (now («switch_firsts» .entry)) (now («switch_ends» .entry)) (now («switch_entries» .entry)))
-        (tablesOf (now («lookup_firsts» .entry)) (now («lookup_ends» .entry)) (now («lookup_entries» .entry))) (now (defaults .entry)))
-        (now (regs .entry)) (decodeOf w)) ⌝ }
+pub fn word_effect(w: u64, regs: &[u64; 32], image: &[u64]) -> Effect
+    requires { ⌜ Readable (now image) ⌝ }
+    ensures { λ r. ⌜ r ≡ wordEffect (cut (now (image .entry))) (now (regs .entry)) (decodeOf w) ⌝ }
 {
     let decoded = op::decode(w);
     let Decoded::Op(op) = decoded else {
         return Effect::Stop(decoded.refusal());
     };
-    effect_of(
-        op,
-        regs,
-        globals,
-        switch_firsts,
-        switch_ends,
-        switch_entries,
-        lookup_firsts,
-        lookup_ends,
-        lookup_entries,
-        defaults,
-    )
+    effect_of(op, regs, image)
 }

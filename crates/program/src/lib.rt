@@ -2,6 +2,10 @@
 pub mod effects;
 pub mod loader;
 
+// The ends of an image's sections, before the first of them: code, globals, of the `Switch` tables firsts, ends and entries, the same of `Lookup`,
+// defaults.
+pub const HEADER: usize = 9;
+
 // What an instruction asks for, once its registers are read.
 pub enum Effect {
     // register, value

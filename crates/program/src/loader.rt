@@ -1,6 +1,10 @@
 // What a start and every run refuse of an image: the loader's tests.
 ghost use mathlib.Core.Path.{_≡_};
-ghost use Rattle.program.specs.Image.{tablesOf, imageOf, rising, tablesOk, imageOk, endsInHalt, below, wordTests, imageTests, failing, verdict};
+ghost use Prim.Native.Nat.{_≤_};
+ghost use lib.ListN.{length};
+ghost use Rattle.program.specs.Image.{tablesOf, rising, tablesOk, imageOk, endsInHalt, below, wordTests, imageTests, failing, verdict};
+ghost use Rattle.program.specs.Words.{between, fits, cut, imageIn, Ordered};
+use crate::HEADER;
 use anomaly::Refusal;
 use op::Checked;
 use op::Counts;
@@ -20,11 +24,11 @@ pub fn below(n: usize, xs: &[u64]) -> bool
     true
 }
 
-// Whether the ends go up from 0 to the number of entries.
-fn rising(ends: &[u64], entries: usize) -> bool
-    ensures { λ r. ⌜ r ≡ rising 0 (now (ends .entry)) entries ⌝ }
+// Whether the ends go up, from a start to the number of entries.
+fn rising(start: u64, ends: &[u64], entries: usize) -> bool
+    ensures { λ r. ⌜ r ≡ rising start (now (ends .entry)) entries ⌝ }
 {
-    let mut from: u64 = 0;
+    let mut from = start;
     let mut i: usize = 0;
     while i < ends.len() {
         let end = ends[i];
@@ -37,11 +41,13 @@ fn rising(ends: &[u64], entries: usize) -> bool
     from == entries as u64
 }
 
-fn tables_ok(firsts: &[u64], ends: &[u64], entries: &[u64]) -> bool
-    ensures { λ r. ⌜ r ≡ tablesOk (tablesOf (now (firsts .entry)) (now (ends .entry)) (now (entries .entry))) ⌝ }
+// Of tables whose firsts stand from a up to b, their ends up to c and their entries up to d.
+fn tables_ok(image: &[u64], a: usize, b: usize, c: usize, d: usize) -> bool
+    requires { ⌜ (a ≤ b) × (b ≤ c) × (c ≤ d) × (d ≤ length (now image)) ⌝ }
+    ensures { λ r. ⌜ r ≡ tablesOk (tablesOf (between a b (now (image .entry))) (between b c (now (image .entry))) (between c d (now (image .entry)))) ⌝ }
 {
-    let up = rising(ends, entries.len());
-    (firsts.len() <= 256) & ((ends.len() == firsts.len()) & ((entries.len() <= 4096) & up))
+    let up = rising(0, &image[b..c], d - c);
+    (b - a <= 256) & ((c - b == b - a) & ((d - c <= 4096) & up))
 }
 
 fn ends_in_halt(code: &[u64]) -> bool
@@ -69,76 +75,82 @@ fn words(code: &[u64], n: Counts) -> Checked
     Checked::Fine
 }
 
-// 10, of an image.
-fn sizes_ok(
-    code: &[u64],
-    globals: &[u64],
-    switch_firsts: &[u64],
-    switch_ends: &[u64],
-    switch_entries: &[u64],
-    lookup_firsts: &[u64],
-    lookup_ends: &[u64],
-    lookup_entries: &[u64],
-    defaults: &[u64],
-) -> bool
-    ensures { λ r. ⌜ r ≡ imageOk (imageOf (now (code .entry)) (now (globals .entry))
-        (tablesOf (now («switch_firsts» .entry)) (now («switch_ends» .entry)) (now («switch_entries» .entry)))
-        (tablesOf (now («lookup_firsts» .entry)) (now («lookup_ends» .entry)) (now («lookup_entries» .entry)))
-        (now (defaults .entry))) ⌝ }
+// 10, of an image whose sections fit.
+fn sizes_ok(image: &[u64]) -> bool
+    requires { ⌜ Ordered (now image) ⌝ }
+    ensures { λ r. ⌜ r ≡ imageOk (cut (now (image .entry))) ⌝ }
 {
-    let switches = tables_ok(switch_firsts, switch_ends, switch_entries);
-    let lookups = tables_ok(lookup_firsts, lookup_ends, lookup_entries);
-    (code.len() <= 65536)
-        & ((globals.len() <= 4096)
-            & (switches & (lookups & (defaults.len() == lookup_firsts.len()))))
-}
-
-// The number by which an image is refused: 10, 11, 16, then word by word 12 to 15. `lent` is what 10 says of the buffers lent with it.
-pub fn check(
-    lent: bool,
-    code: &[u64],
-    globals: &[u64],
-    switch_firsts: &[u64],
-    switch_ends: &[u64],
-    switch_entries: &[u64],
-    lookup_firsts: &[u64],
-    lookup_ends: &[u64],
-    lookup_entries: &[u64],
-    defaults: &[u64],
-) -> Checked
-    ensures { λ r. ⌜ r ≡ verdict (failing (imageTests lent
-        (imageOf (now (code .entry)) (now (globals .entry))
-        (tablesOf (now («switch_firsts» .entry)) (now («switch_ends» .entry)) (now («switch_entries» .entry)))
-        (tablesOf (now («lookup_firsts» .entry)) (now («lookup_ends» .entry)) (now («lookup_entries» .entry)))
-        (now (defaults .entry))))) ⌝ }
-{
-    let sizes = sizes_ok(
-        code,
-        globals,
+    let globals = image[0] as usize;
+    let switch_firsts = image[1] as usize;
+    let switch_ends = image[2] as usize;
+    let switch_entries = image[3] as usize;
+    let lookup_firsts = image[4] as usize;
+    let lookup_ends = image[5] as usize;
+    let lookup_entries = image[6] as usize;
+    let defaults = image[7] as usize;
+    let all = image[8] as usize;
+    let switches = tables_ok(
+        image,
         switch_firsts,
         switch_ends,
         switch_entries,
         lookup_firsts,
-        lookup_ends,
-        lookup_entries,
-        defaults,
     );
-    if !(lent & sizes) {
+    let lookups = tables_ok(image, lookup_firsts, lookup_ends, lookup_entries, defaults);
+    (globals - HEADER <= 65536)
+        & ((switch_firsts - globals <= 4096)
+            & (switches & (lookups & (all - defaults == lookup_ends - lookup_firsts))))
+}
+
+// The number by which an image whose sections fit is refused.
+fn check_cut(lent: bool, image: &[u64]) -> Checked
+    requires { ⌜ Ordered (now image) ⌝ }
+    ensures { λ r. ⌜ r ≡ verdict (failing (imageTests lent (cut (now (image .entry))))) ⌝ }
+{
+    let globals = image[0] as usize;
+    let switch_firsts = image[1] as usize;
+    let switch_ends = image[2] as usize;
+    let from = image[3] as usize;
+    let to = image[4] as usize;
+    let lookup_ends = image[5] as usize;
+    let code = &image[HEADER..globals];
+    let targets = &image[from..to];
+    if !(lent & sizes_ok(image)) {
         return Checked::Refused(Refusal::SIZE);
     }
     if !ends_in_halt(code) {
         return Checked::Refused(Refusal::NO_HALT);
     }
-    if !below(code.len(), switch_entries) {
+    if !below(code.len(), targets) {
         return Checked::Refused(Refusal::TABLE_TARGET);
     }
     words(
         code,
         Counts {
             code: code.len(),
-            globals: globals.len(),
-            switches: switch_firsts.len(),
-            lookups: lookup_firsts.len(),
+            globals: switch_firsts - globals,
+            switches: switch_ends - switch_firsts,
+            lookups: lookup_ends - to,
         },
     )
+}
+
+// Whether the sections of an image fit into its words.
+fn fits(image: &[u64]) -> bool
+    ensures { λ r. ⌜ r ≡ fits (now (image .entry)) ⌝ }
+{
+    if image.len() < HEADER {
+        return false;
+    }
+    rising(9, &image[..HEADER], image.len())
+}
+
+// The number by which an image is refused: 10, 11, 16, then word by word 12 to 15. `lent` is what 10 says of the buffers lent with it.
+pub fn check(lent: bool, image: &[u64]) -> Checked
+    ensures { λ r. ⌜ r ≡ verdict (failing (imageTests lent (imageIn (now (image .entry))))) ⌝ }
+{
+    if !fits(image) {
+        return Checked::Refused(Refusal::SIZE);
+    }
+    check_cut(lent, image)
 }

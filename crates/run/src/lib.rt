@@ -6,7 +6,8 @@ ghost use lib.ListN.{length};
 ghost use lib.Dec.{eqb};
 ghost use Rattle.anomaly.specs.Table.{isAnomaly};
 ghost use Rattle.vm.specs.declared.State.{State};
-ghost use Rattle.program.specs.Image.{tablesOf, imageOf, failing};
+ghost use Rattle.program.specs.Image.{failing};
+ghost use Rattle.program.specs.Words.{cut, imageIn, Ordered};
 ghost use Rattle.vm.specs.Machine.{Lent, lendRun, run, tests, runCall, perform, ended};
 ghost use Rattle.vm.specs.Loaded.{Loaded};
 ghost use Rattle.vm.specs.Told.{machineOf, answerOf};
@@ -22,6 +23,7 @@ use instruction::Position;
 use instruction::Turn;
 use instruction::apply;
 use op::Checked;
+use program::HEADER;
 use program::effects;
 use program::loader;
 use vm::State;
@@ -45,44 +47,24 @@ fn go(
     from: Position,
     budget: Steps,
     regs: &mut [u64; 32],
-    code: &[u64],
-    globals: &[u64],
-    switch_firsts: &[u64],
-    switch_ends: &[u64],
-    switch_entries: &[u64],
-    lookup_firsts: &[u64],
-    lookup_ends: &[u64],
-    lookup_entries: &[u64],
-    defaults: &[u64],
+    image: &[u64],
     frames: &mut [u64],
     heap: &mut [u8],
 ) -> Ended
-    requires { ⌜ Loaded (imageOf (now code) (now globals) (tablesOf (now «switch_firsts») (now «switch_ends») (now «switch_entries»))
-        (tablesOf (now «lookup_firsts») (now «lookup_ends») (now «lookup_entries»)) (now defaults))
-        × ((l : Lent) → Going (length (now code)) from (lendRun (now frames) (now heap) l)) ⌝ }
+    requires { ⌜ Ordered (now image) × Loaded (cut (now image))
+        × ((l : Lent) → Going (length (cut (now image) .code)) from (lendRun (now frames) (now heap) l)) ⌝ }
     ensures { λ r. ⌜ ((s : State) (l : Lent)
         → finishedAt s (now (regs .exit)) (lendRun (now (frames .exit)) (now (heap .exit)) l) r
-        ≡ finished (imageOf (now (code .entry)) (now (globals .entry))
-        (tablesOf (now («switch_firsts» .entry)) (now («switch_ends» .entry)) (now («switch_entries» .entry)))
-        (tablesOf (now («lookup_firsts» .entry)) (now («lookup_ends» .entry)) (now («lookup_entries» .entry))) (now (defaults .entry)))
-        budget 0 (machineAt s from (now (regs .entry)) (lendRun (now (frames .entry)) (now (heap .entry)) l))) ⌝ }
+        ≡ finished (cut (now (image .entry))) budget 0
+        (machineAt s from (now (regs .entry)) (lendRun (now (frames .entry)) (now (heap .entry)) l))) ⌝ }
 {
+    let end = image[0] as usize;
+    let code = &image[HEADER..end];
     let mut at = from;
     let mut steps: Steps = 0;
     while steps < budget {
         let pc = at.pc;
-        let effect = effects::word_effect(
-            code[pc],
-            regs,
-            globals,
-            switch_firsts,
-            switch_ends,
-            switch_entries,
-            lookup_firsts,
-            lookup_ends,
-            lookup_entries,
-            defaults,
-        );
+        let effect = effects::word_effect(code[pc], regs, image);
         match apply(effect, at, regs, frames, heap) {
             Turn::Next(to) => {
                 at = to;
@@ -174,30 +156,19 @@ fn finish(state: State, regs: [u64; 32], e: Ended) -> Ran
 fn run_checked(
     state: State,
     budget: Steps,
-    code: &[u64],
-    globals: &[u64],
-    switch_firsts: &[u64],
-    switch_ends: &[u64],
-    switch_entries: &[u64],
-    lookup_firsts: &[u64],
-    lookup_ends: &[u64],
-    lookup_entries: &[u64],
-    defaults: &[u64],
+    image: &[u64],
     frames: &mut [u64],
     heap: &mut [u8],
 ) -> Ran
-    requires { ⌜ ((l : Lent) → failing (tests (run (imageOf (now code) (now globals)
-        (tablesOf (now «switch_firsts») (now «switch_ends») (now «switch_entries»))
-        (tablesOf (now «lookup_firsts») (now «lookup_ends») (now «lookup_entries»)) (now defaults)) budget) state
-        (lendRun (now frames) (now heap) l))
-        ≡ none) ⌝ }
+    requires { ⌜ Ordered (now image)
+        × ((l : Lent) → failing (tests (run (cut (now image)) budget) state (lendRun (now frames) (now heap) l)) ≡ none) ⌝ }
     ensures { λ r. ⌜ ((l : Lent)
         → ranTold r (lendRun (now (frames .exit)) (now (heap .exit)) l)
-        ≡ runCall (imageOf (now (code .entry)) (now (globals .entry))
-        (tablesOf (now («switch_firsts» .entry)) (now («switch_ends» .entry)) (now («switch_entries» .entry)))
-        (tablesOf (now («lookup_firsts» .entry)) (now («lookup_ends» .entry)) (now («lookup_entries» .entry))) (now (defaults .entry)))
-        budget (machineOf state (lendRun (now (frames .entry)) (now (heap .entry)) l))) ⌝ }
+        ≡ runCall (cut (now (image .entry))) budget
+        (machineOf state (lendRun (now (frames .entry)) (now (heap .entry)) l))) ⌝ }
 {
+    let end = image[0] as usize;
+    let code = &image[HEADER..end];
     if code.len() == 0 {
         return idle(state);
     }
@@ -215,15 +186,7 @@ fn run_checked(
         },
         budget,
         &mut regs,
-        code,
-        globals,
-        switch_firsts,
-        switch_ends,
-        switch_entries,
-        lookup_firsts,
-        lookup_ends,
-        lookup_entries,
-        defaults,
+        image,
         frames,
         heap,
     );
@@ -231,64 +194,24 @@ fn run_checked(
 }
 
 // Instructions from the stored pc on, `budget` of them at most. Image and buffers are checked again at every run.
-pub fn run(
-    state: State,
-    budget: Steps,
-    code: &[u64],
-    globals: &[u64],
-    switch_firsts: &[u64],
-    switch_ends: &[u64],
-    switch_entries: &[u64],
-    lookup_firsts: &[u64],
-    lookup_ends: &[u64],
-    lookup_entries: &[u64],
-    defaults: &[u64],
-    frames: &mut [u64],
-    heap: &mut [u8],
-) -> Ran
+pub fn run(state: State, budget: Steps, image: &[u64], frames: &mut [u64], heap: &mut [u8]) -> Ran
     ensures { λ r. ⌜ ((l : Lent)
         → ranTold r (lendRun (now (frames .exit)) (now (heap .exit)) l)
-        ≡ perform (run (imageOf (now (code .entry)) (now (globals .entry))
-        (tablesOf (now («switch_firsts» .entry)) (now («switch_ends» .entry)) (now («switch_entries» .entry)))
-        (tablesOf (now («lookup_firsts» .entry)) (now («lookup_ends» .entry)) (now («lookup_entries» .entry))) (now (defaults .entry)))
-        budget) (machineOf state (lendRun (now (frames .entry)) (now (heap .entry)) l))) ⌝ }
+        ≡ perform (run (imageIn (now (image .entry))) budget)
+        (machineOf state (lendRun (now (frames .entry)) (now (heap .entry)) l))) ⌝ }
 {
     let gc = state.gc;
     let sizes = lent::frames_ok(frames.len()) & lent::heap_ok(gc.base, heap.len());
-    let checked = loader::check(
-        sizes,
-        code,
-        globals,
-        switch_firsts,
-        switch_ends,
-        switch_entries,
-        lookup_firsts,
-        lookup_ends,
-        lookup_entries,
-        defaults,
-    );
-    let belongs = lent::frames_belong(code.len(), state.depth, frames) & gc.sound(heap.len());
+    let checked = loader::check(sizes, image);
     match checked {
         Checked::Refused(k) => not_run(state, Refusal::from_number(k)),
         Checked::Fine => {
-            if !belongs {
+            let end = image[0] as usize;
+            let code = &image[HEADER..end];
+            if !(lent::frames_belong(code.len(), state.depth, frames) & gc.sound(heap.len())) {
                 return not_run(state, Refusal::State);
             }
-            run_checked(
-                state,
-                budget,
-                code,
-                globals,
-                switch_firsts,
-                switch_ends,
-                switch_entries,
-                lookup_firsts,
-                lookup_ends,
-                lookup_entries,
-                defaults,
-                frames,
-                heap,
-            )
+            run_checked(state, budget, image, frames, heap)
         }
     }
 }

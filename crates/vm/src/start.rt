@@ -3,7 +3,7 @@ ghost use mathlib.Core.Path.{_≡_};
 ghost use Prim.Native.Nat.{_+_, _^_, _≤_};
 ghost use lib.ListN.{length};
 ghost use Rattle.gc.specs.Lent.{pageSize};
-ghost use Rattle.program.specs.Image.{tablesOf, imageOf};
+ghost use Rattle.program.specs.Words.{imageIn};
 ghost use Rattle.vm.specs.Machine.{Lent, lendBegin, blank, begin, start};
 ghost use Rattle.vm.specs.Told.{lentOf, machineOf, told, startedOn};
 use crate::Called;
@@ -65,41 +65,19 @@ fn begin(base: u64, frames: &mut [u64], heap: &mut [u8]) -> State
 // Slots and spare are looked at for their sizes alone.
 pub fn start(
     base: u64,
-    code: &[u64],
-    globals: &[u64],
-    switch_firsts: &[u64],
-    switch_ends: &[u64],
-    switch_entries: &[u64],
-    lookup_firsts: &[u64],
-    lookup_ends: &[u64],
-    lookup_entries: &[u64],
-    defaults: &[u64],
+    image: &[u64],
     frames: &mut [u64],
     heap: &mut [u8],
     slots: &[u64],
     spare: &[u64],
 ) -> Called
     ensures { λ r. ⌜ told r (lentOf (now (frames .exit)) (now (heap .exit)) (now (slots .entry)) (now (spare .entry)))
-        ≡ startedOn (start (imageOf (now (code .entry)) (now (globals .entry))
-        (tablesOf (now («switch_firsts» .entry)) (now («switch_ends» .entry)) (now («switch_entries» .entry)))
-        (tablesOf (now («lookup_firsts» .entry)) (now («lookup_ends» .entry)) (now («lookup_entries» .entry))) (now (defaults .entry)))
-        base (lentOf (now (frames .entry)) (now (heap .entry)) (now (slots .entry)) (now (spare .entry)))) base
+        ≡ startedOn (start (imageIn (now (image .entry))) base (lentOf (now (frames .entry)) (now (heap .entry)) (now (slots .entry)) (now (spare .entry)))) base
         (lentOf (now (frames .entry)) (now (heap .entry)) (now (slots .entry)) (now (spare .entry))) ⌝ }
 {
     let sizes = lent::frames_ok(frames.len())
         & (lent::heap_ok(base, heap.len()) & lent::slots_ok(slots.len(), spare.len()));
-    let checked = loader::check(
-        sizes,
-        code,
-        globals,
-        switch_firsts,
-        switch_ends,
-        switch_entries,
-        lookup_firsts,
-        lookup_ends,
-        lookup_entries,
-        defaults,
-    );
+    let checked = loader::check(sizes, image);
     match checked {
         Checked::Refused(k) => blank(base).refused(Refusal::from_number(k)),
         Checked::Fine => Called {

@@ -1,7 +1,7 @@
 //! The proved machine, by its library and the bindings to it. It is asked every call, refused ones and made-up states too, and its lent
 //! buffers are compared whole.
 use girzhanok::{
-    Refusal, State, Tables, STATE_WORDS, WORD_ACTIVE, WORD_BASE, WORD_DEPTH, WORD_LEN, WORD_NAMES, WORD_PAGE, WORD_PC,
+    Refusal, State, STATE_WORDS, WORD_ACTIVE, WORD_BASE, WORD_DEPTH, WORD_LEN, WORD_NAMES, WORD_PAGE, WORD_PC,
     WORD_PUSHED,
 };
 use oracle::compare::Compared;
@@ -17,49 +17,37 @@ pub struct Proved {
     spare: Vec<u64>,
 }
 
-/// An image as it is lent: tables in rows.
-struct Flat<'a> {
-    image: &'a Image,
-    switches: Rows,
-    lookups: Rows,
-    defaults: Vec<u64>,
+/// An image as it is lent: the ends of its sections, then the sections in a row.
+struct Flat {
+    words: Vec<u64>,
 }
 
-struct Rows {
-    firsts: Vec<u64>,
-    ends: Vec<u64>,
-    entries: Vec<u64>,
-}
-
-impl Rows {
-    fn of<'a>(tables: impl Iterator<Item = (u64, &'a Vec<u64>)>) -> Self {
-        let mut rows = Rows { firsts: Vec::new(), ends: Vec::new(), entries: Vec::new() };
-        for (first, entries) in tables {
-            rows.firsts.push(first);
-            rows.entries.extend(entries);
-            rows.ends.push(rows.entries.len() as u64);
-        }
-        rows
+/// First keys, ends and entries.
+fn rows<'a>(tables: impl Iterator<Item = (u64, &'a Vec<u64>)>) -> [Vec<u64>; 3] {
+    let [mut firsts, mut ends, mut entries] = [const { Vec::new() }; 3];
+    for (first, slots) in tables {
+        firsts.push(first);
+        entries.extend(slots);
+        ends.push(entries.len() as u64);
     }
-
-    fn lend(&self) -> Tables<'_> {
-        Tables { firsts: &self.firsts, ends: &self.ends, entries: &self.entries }
-    }
+    [firsts, ends, entries]
 }
 
-impl<'a> Flat<'a> {
-    fn of(image: &'a Image) -> Self {
-        Flat {
-            image,
-            switches: Rows::of(image.switches.iter().map(|t| (t.first, &t.targets))),
-            lookups: Rows::of(image.lookups.iter().map(|t| (t.first, &t.values))),
-            defaults: image.lookups.iter().map(|t| t.default).collect(),
+impl Flat {
+    fn of(image: &Image) -> Self {
+        let [a, b, c] = rows(image.switches.iter().map(|t| (t.first, &t.targets)));
+        let [d, e, f] = rows(image.lookups.iter().map(|t| (t.first, &t.values)));
+        let defaults = image.lookups.iter().map(|t| t.default).collect();
+        let mut words = vec![0; 9];
+        for (i, section) in [&image.code, &image.globals, &a, &b, &c, &d, &e, &f, &defaults].into_iter().enumerate() {
+            words.extend(section);
+            words[i] = words.len() as u64;
         }
+        Flat { words }
     }
 
     fn lend(&self) -> girzhanok::Image<'_> {
-        let Image { code, globals, .. } = self.image;
-        girzhanok::Image { code, globals, switches: self.switches.lend(), lookups: self.lookups.lend(), defaults: &self.defaults }
+        girzhanok::Image { words: &self.words }
     }
 }
 

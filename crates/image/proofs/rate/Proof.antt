@@ -1,114 +1,108 @@
 -- `image::rate` meets its contract. Assumes nothing.
 use mathlib.Core.Path.{refl}
-use Rattle.vm.specs.Machine.{lendFrames, lendSlots, lendSpare, unlent}
 use native.Mathlib.Omega.{arith}
+use Rattle.vm.specs.Machine.{lendFrames, lendSlots, lendSpare, unlent}
+use Rattle.image.specs.Runner.{imageIn}
 use Rattle.image.proofs.Readings.{text-short}
-use Rattle.image.proofs.Answers.{with-globals, globals-are, not-done, done-is, start-says, names-say, run-says, says-as}
+use Rattle.image.proofs.Joins.{image-joined, words-ordered, globals-of, image-with}
+use Rattle.image.proofs.Answers.{not-done, done-is, start-says, names-say, run-says, says-as}
 use borrow.Author.Needs.{needs}
 use Rattle.image.proofs.rate.Statement.{statement}
 use Rattle.image.proofs.rate.Tie as tie
 
--- ---- places, from the run back to what was lent
-
-abbrev lent-to : tie.After-start → tie.Start
-lent-to c = c .before .before .before .before .before .before .before .before .before .before .before .before .before .before .before .before .before .before .before .before .before .before
-
-abbrev frames-lent : tie.After-intern-names → tie.After-frames
-frames-lent c = c .before .before .before .before .before .before .before .before .before .before .before
-
-abbrev start-before : tie.After-intern-names → tie.After-start
-start-before c = frames-lent c .before
-
--- behind the interning of all names, when their buffers are given back
-abbrev globals-lent : tie.After-slice-known15 → tie.After-globals
-globals-lent c = c .before .before .before .before .before .before .before .before .before
-
-abbrev names-before : tie.After-slice-known15 → tie.After-intern-names
-names-before c = globals-lent c .before
-
--- the run, and all names before it
-abbrev run-before : tie.After-slice-known18 → tie.After-run
-run-before c = c .before .before .before .before
-
-abbrev names-after : tie.After-run → tie.After-slice-known15
-names-after c = c .before .before .before .before .before .before .before
-
--- ---- needs
-
-put-reply-requires : tie.Need-put-reply-requires
-put-reply-requires c κs = lent-to (c .before .before .before .before .before .before) .pre .2
-
 returns : tie.Need-returns
-returns c =
-    let put-reply = c .before .before in
-    let match-reply = put-reply .before .before in
-    let start = match-reply .before .before .before .before .before in
-    let lent = lent-to start in
-    says-as _ _ _ _ _ (start-says _ _ _ _ _ _ _ (rw (lent .pre .4, lent .pre .5) at (start .start .ensures))
-    (not-done _ (match-reply .match .keys2))) (put-reply .put-reply .ensures)
+returns c = says-as _ _ _ _ _ (start-says _ _ _ _ _ _ _
+    (rw (c .before .before .before .before .before .before .before .before .before .before .before .before .before .before .before .before .before .before .before .before .before .before .before .pre .4, image-joined (imageIn (c .before .before .before .before .before .before .before .before .before .before .before .before .before .before .before .before .before .before .before .before .before .before .before .args .input .now)), c .before .before .before .before .before .before .before .before .before .before .before .before .before .before .before .before .before .before .before .before .before .before .before .pre .5) at (c .before .before .before .before .before .before .before .before .before .start .ensures)) (not-done _ (c .before .before .before .before .match .keys2))) (c .before .before .put-reply .ensures)
+
+slice-read-first : tie.Need-slice-read-first
+slice-read-first c = omega (arith, words-ordered _ (c .before .before .before .before .before .before .before .before .before .before .before .before .before .before .before .before .before .before .before .before .before .pre .4))
+
+slice-read-end : tie.Need-slice-read-end
+slice-read-end c = omega (arith, words-ordered _ (c .before .before .before .before .before .before .before .before .before .before .before .before .before .before .before .before .before .before .before .before .before .before .pre .4))
+
+mul-intern-names : tie.Need-mul-intern-names
+mul-intern-names c = record { fits = omega (arith, words-ordered _ (c .before .before .before .before .before .before .before .before .before .before .before .before .before .before .before .before .before .before .before .before .before .before .pre .4), c .before .before .before .before .before .before .before .before .before .before .before .before .before .before .before .before .before .before .before .before .before .before .good .1 .1 .0 .1) }
+
+sub-intern-names : tie.Need-sub-intern-names
+sub-intern-names c = omega (arith, words-ordered _ (c .before .before .before .before .before .before .before .before .before .before .before .before .before .before .before .before .before .before .before .before .before .before .pre .4))
+
+part-intern-names-start : tie.Need-part-intern-names-start
+part-intern-names-start c = omega (arith, words-ordered _ (c .before .before .before .before .before .before .before .before .before .before .before .before .before .before .before .before .before .before .before .before .before .before .pre .4))
+
+part-intern-names-end : tie.Need-part-intern-names-end
+part-intern-names-end c = omega (arith, words-ordered _ (c .before .before .before .before .before .before .before .before .before .before .before .before .before .before .before .before .before .before .before .before .before .before .pre .4))
 
 intern-names-requires : tie.Need-intern-names-requires
-intern-names-requires c κs =
-    let lent = lent-to (c .before .before .before .before .before .before .before .before .before .before .before) in
-    (text-short _ (lent .pre .0), rw (globals-are _ _ _ _ _ _ (lent .pre .4)) (omega arith), lent .pre .1)
+intern-names-requires c κs = (text-short _ (c .before .before .before .before .before .before .before .before .before .before .before .before .before .before .before .before .before .before .before .before .before .before .before .before .before .before .before .pre .0), rw (globals-of _ (c .before .before .before .before .before .before .before .before .before .before .before .before .before .before .before .before .before .before .before .before .before .before .before .before .before .before .before .pre .4)) (omega arith), c .before .before .before .before .before .before .before .before .before .before .before .before .before .before .before .before .before .before .before .before .before .before .before .before .before .before .before .pre .1)
 
 put-reply-requires-2 : tie.Need-put-reply-requires-2
-put-reply-requires-2 c κs = lent-to (start-before (names-before (c .before .before))) .pre .2
+put-reply-requires-2 c κs = c .before .before .before .before .before .before .before .before .before .before .before .before .before .before .before .before .before .before .before .before .before .before .before .before .before .before .before .before .before .before .before .before .before .before .before .before .before .before .before .before .pre .2
 
 returns-2 : tie.Need-returns-2
-returns-2 c =
-    let put-reply = c .before .before in
-    let match-reply = put-reply .before .before in
-    let intern-names = match-reply .before .before .before .before .before .before .before .before .before .before .before in
-    let start-done = intern-names .before .before .before .before .before .before in
-    let start = start-before intern-names in
-    let lent = lent-to start in
-    says-as _ _ _ _ _ (names-say _ _ _ _ _ _ _ (rw (lent .pre .4, lent .pre .5) at (start .start .ensures))
-    (done-is _ (start-done .enum-told .given .1)) _ (globals-are _ _ _ _ _ _ (lent .pre .4)) _ _ _ (intern-names .intern-names .ensures (lendFrames _ unlent))
-    (not-done _ (match-reply .match2 .keys2))) (put-reply .put-reply2 .ensures)
+returns-2 c = says-as _ _ _ _ _ (names-say _ _ _ _ _ _ _
+    (rw (c .before .before .before .before .before .before .before .before .before .before .before .before .before .before .before .before .before .before .before .before .before .before .before .before .before .before .before .before .before .before .before .before .before .before .before .before .before .before .before .before .before .before .before .pre .4, image-joined (imageIn (c .before .before .before .before .before .before .before .before .before .before .before .before .before .before .before .before .before .before .before .before .before .before .before .before .before .before .before .before .before .before .before .before .before .before .before .before .before .before .before .before .before .before .before .args .input .now)), c .before .before .before .before .before .before .before .before .before .before .before .before .before .before .before .before .before .before .before .before .before .before .before .before .before .before .before .before .before .before .before .before .before .before .before .before .before .before .before .before .before .before .before .pre .5) at (c .before .before .before .before .before .before .before .before .before .before .before .before .before .before .before .before .before .before .before .before .before .before .before .before .before .before .before .before .before .start .ensures)) (done-is _ (c .before .before .before .before .before .before .before .before .before .before .before .before .before .before .before .before .before .before .before .before .before .before .before .enum-told .given .1)) _ (globals-of _ (c .before .before .before .before .before .before .before .before .before .before .before .before .before .before .before .before .before .before .before .before .before .before .before .before .before .before .before .before .before .before .before .before .before .before .before .before .before .before .before .before .before .before .before .pre .4)) _ _ _
+    (c .before .before .before .before .before .before .before .before .before .before .before .before .before .before .before .intern-names .ensures (lendFrames _ unlent)) (not-done _ (c .before .before .before .before .match2 .keys2))) (c .before .before .put-reply2 .ensures)
 
 cast-budget : tie.Need-cast-budget
-cast-budget c = let lent = lent-to (start-before (names-before (c .before .before .before))) in omega (arith, lent .pre .3)
+cast-budget c = omega (arith, c .before .before .before .before .before .before .before .before .before .before .before .before .before .before .before .before .before .before .before .before .before .before .before .before .before .before .before .before .before .before .before .before .before .before .before .before .before .before .before .before .before .pre .3)
 
 put-ran-requires : tie.Need-put-ran-requires
-put-ran-requires c κs = lent-to (start-before (names-before (names-after (run-before (c .before))))) .pre .2
+put-ran-requires c κs = c .before .before .before .before .before .before .before .before .before .before .before .before .before .before .before .before .before .before .before .before .before .before .before .before .before .before .before .before .before .before .before .before .before .before .before .before .before .before .before .before .before .before .before .before .before .before .before .before .before .before .pre .2
 
 same-length-14 : tie.Need-same-length-14
-same-length-14 c = globals-lent (names-after (run-before (c .before .before .before .before))) .globals .given
+same-length-14 c = c .before .before .before .before .before .before .before .before .before .before .before .before .before .before .before .before .before .before .before .before .before .before .before .before .words .given .1
 
 same-length-15 : tie.Need-same-length-15
-same-length-15 c =
-    let frames2 = c .before .before .before .before .before .before .before in
-    let frames = frames-lent (names-before (names-after (frames2 .before))) in
-    cc (frames2 .frames2 .given, frames .frames .given)
+same-length-15 c = cc (c .before .before .before .before .before .before .before .frames2 .given, c .before .before .before .before .before .before .before .before .before .before .before .before .before .before .before .before .before .before .before .before .before .before .before .before .before .before .before .before .before .before .before .before .before .before .before .before .before .before .frames .given)
 
 same-length-16 : tie.Need-same-length-16
-same-length-16 c =
-    let heap3 = c .before .before .before .before .before in
-    let names = names-after (heap3 .before .before .before) in
-    let heap2 = names .before .before .before .before .before .before .before in
-    let heap = names-before names .before .before .before .before .before .before .before .before .before in
-    cc (heap3 .heap3 .given, heap2 .heap2 .given, heap .heap .given)
+same-length-16 c = cc (c .before .before .before .before .before .heap3 .given, c .before .before .before .before .before .before .before .before .before .before .before .before .before .before .before .before .before .before .before .before .before .before .heap2 .given, c .before .before .before .before .before .before .before .before .before .before .before .before .before .before .before .before .before .before .before .before .before .before .before .before .before .before .before .before .before .before .before .before .before .before .before .before .heap .given)
 
 returns-3 : tie.Need-returns-3
-returns-3 c =
-    let put-ran = c .before .before in
-    let run = put-ran .before .before .before .before .before .before in
-    let names-done = run .before .before .before .before .before in
-    let intern-names = names-done .before .before .before .before .before .before .before .before .before .before .before .before in
-    let start-done = intern-names .before .before .before .before .before .before in
-    let start = start-before intern-names in
-    let lent = lent-to start in
-    says-as _ _ _ _ _ (run-says _ _ _ _ _ _ _ (rw (lent .pre .4, lent .pre .5) at (start .start .ensures))
-    (done-is _ (start-done .enum-told .given .1)) _ (globals-are _ _ _ _ _ _ (lent .pre .4)) _ _ _ (intern-names .intern-names .ensures (lendFrames _ unlent))
-    (done-is _ (names-done .enum-told2 .given .1)) _ (with-globals _ _ _ _ _ _ (lent .pre .4) _) _ refl _ _ refl _
-    (run .run .ensures (lendSlots _ (lendSpare _ unlent)))) (put-ran .put-ran .ensures)
+returns-3 c = says-as _ _ _ _ _ (run-says _ _ _ _ _ _ _
+    (rw (c .before .before .before .before .before .before .before .before .before .before .before .before .before .before .before .before .before .before .before .before .before .before .before .before .before .before .before .before .before .before .before .before .before .before .before .before .before .before .before .before .before .before .before .before .before .before .before .before .before .before .before .before .before .pre .4, image-joined (imageIn (c .before .before .before .before .before .before .before .before .before .before .before .before .before .before .before .before .before .before .before .before .before .before .before .before .before .before .before .before .before .before .before .before .before .before .before .before .before .before .before .before .before .before .before .before .before .before .before .before .before .before .before .before .before .args .input .now)), c .before .before .before .before .before .before .before .before .before .before .before .before .before .before .before .before .before .before .before .before .before .before .before .before .before .before .before .before .before .before .before .before .before .before .before .before .before .before .before .before .before .before .before .before .before .before .before .before .before .before .before .before .before .pre .5) at (c .before .before .before .before .before .before .before .before .before .before .before .before .before .before .before .before .before .before .before .before .before .before .before .before .before .before .before .before .before .before .before .before .before .before .before .before .before .before .before .start .ensures)) (done-is _ (c .before .before .before .before .before .before .before .before .before .before .before .before .before .before .before .before .before .before .before .before .before .before .before .before .before .before .before .before .before .before .before .before .before .enum-told .given .1)) _ (globals-of _ (c .before .before .before .before .before .before .before .before .before .before .before .before .before .before .before .before .before .before .before .before .before .before .before .before .before .before .before .before .before .before .before .before .before .before .before .before .before .before .before .before .before .before .before .before .before .before .before .before .before .before .before .before .before .pre .4)) _ _ _
+    (c .before .before .before .before .before .before .before .before .before .before .before .before .before .before .before .before .before .before .before .before .before .before .before .before .before .intern-names .ensures (lendFrames _ unlent)) (done-is _ (c .before .before .before .before .before .before .before .before .before .before .before .before .before .enum-told2 .given .1)) _ (image-with _ (c .before .before .before .before .before .before .before .before .before .before .before .before .before .before .before .before .before .before .before .before .before .before .before .before .before .before .before .before .before .before .before .before .before .before .before .before .before .before .before .before .before .before .before .before .before .before .before .before .before .before .before .before .before .pre .4) _ (c .before .before .before .before .before .before .before .before .before .before .before .before .before .before .before .before .before .before .before .before .before .before .before .before .words .given .0)) _ refl _ _ refl _
+    (c .before .before .before .before .before .before .before .before .run .ensures (lendSlots _ (lendSpare _ unlent)))) (c .before .before .put-ran .ensures)
 
 pub rate-spec : {M : Type 1} → statement M
 rate-spec =
     tie.close
-    (tie.spec (λ c κs. search needs) (λ c. search needs) put-reply-requires (λ c. search needs) (λ c. search needs) (λ c. search needs)
-    (λ c. search needs) (λ c. search needs) (λ c. search needs) returns intern-names-requires (λ c. search needs) put-reply-requires-2
-    (λ c. search needs) (λ c. search needs) (λ c. search needs) (λ c. search needs) (λ c. search needs) (λ c. search needs)
-    (λ c. search needs) returns-2 cast-budget (λ c κs. search needs) put-ran-requires same-length-14 same-length-15 same-length-16
-    (λ c. search needs) (λ c. search needs) (λ c. search needs) (λ c. search needs) returns-3)
+    (tie.spec
+    (λ c κs. search needs)
+    (λ c. search needs)
+    (λ c κs. search needs)
+    (λ c. search needs)
+    (λ c. search needs)
+    (λ c. search needs)
+    (λ c. search needs)
+    (λ c. search needs)
+    (λ c. search needs)
+    returns
+    slice-read-first
+    slice-read-end
+    mul-intern-names
+    sub-intern-names
+    part-intern-names-start
+    part-intern-names-end
+    intern-names-requires
+    (λ c. search needs)
+    put-reply-requires-2
+    (λ c. search needs)
+    (λ c. search needs)
+    (λ c. search needs)
+    (λ c. search needs)
+    (λ c. search needs)
+    (λ c. search needs)
+    (λ c. search needs)
+    returns-2
+    cast-budget
+    (λ c κs. search needs)
+    put-ran-requires
+    same-length-14
+    same-length-15
+    same-length-16
+    (λ c. search needs)
+    (λ c. search needs)
+    (λ c. search needs)
+    (λ c. search needs)
+    returns-3)

@@ -3,7 +3,7 @@ use mathlib.Core.Path.{_≡_, refl, _∙_}
 use Prim.Native.Nat.{_-_}
 use lib.ListN.{length}
 use native.Mathlib.Omega.{arith}
-use Rattle.program.specs.Image.{tablesOf, imageOf}
+use Rattle.program.specs.Words.{cut}
 use Rattle.vm.specs.Machine.{Lent, lendRun}
 use Rattle.run.proofs.Loops.{Running, running-first, running-next, halted-here, stopped-here, spent-here, asks-writable, next-fits}
 use borrow.Author.Needs.{needs}
@@ -11,20 +11,17 @@ use Rattle.run.proofs.go.Statement.{statement}
 use Rattle.run.proofs.go.Tie as tie
 
 abbrev Inv-loop : tie.InvT-loop
-Inv-loop budget regs₀ code globals switch-firsts switch-ends switch-entries lookup-firsts lookup-ends lookup-entries defaults frames₀ heap₀
-    at₀ steps₀ regs frames heap at steps = Running
-    (imageOf code globals (tablesOf switch-firsts switch-ends switch-entries) (tablesOf lookup-firsts lookup-ends lookup-entries) defaults)
-    budget regs₀ (λ (l : Lent). lendRun frames₀ heap₀ l) at₀ regs (λ (l : Lent). lendRun frames heap l) at steps
+Inv-loop budget regs₀ image frames₀ heap₀ end code at₀ steps₀ regs frames heap at steps = Running (cut image) budget regs₀
+    (λ (l : Lent). lendRun frames₀ heap₀ l) at₀ regs (λ (l : Lent). lendRun frames heap l) at steps
     × (length frames ≡ length frames₀) × (length heap ≡ length heap₀)
 
 abbrev μ-loop : tie.MeasureT-loop
-μ-loop budget regs₀ code globals switch-firsts switch-ends switch-entries lookup-firsts lookup-ends lookup-entries defaults frames₀ heap₀
-    at₀ steps₀ regs frames heap at steps = budget - steps
+μ-loop budget regs₀ image frames₀ heap₀ end code at₀ steps₀ regs frames heap at steps = budget - steps
 
 -- ---- places: the start of the loop, and from the end of a turn back
 
 abbrev start-of : tie.At-loop Inv-loop μ-loop → tie.Start Inv-loop μ-loop
-start-of c = c .before .before .before .before .before .before .before .before .before .before .before .before
+start-of c = c .before .before .before .before .before .before
 
 abbrev test-of : tie.After-word-effect Inv-loop μ-loop → tie.In-loop Inv-loop μ-loop
 test-of c = c .before .before .before
@@ -37,8 +34,8 @@ word-of c = c .before .before .before .before .before .before .before .before
 
 loop-holds : tie.Need-loop-holds Inv-loop μ-loop
 loop-holds c =
-    let start = c .before .before .before .before .before .before .before .before .before .before .before in
-    (running-first _ _ _ _ _ (start .pre .1), refl, refl)
+    let start = c .before .before .before .before .before in
+    (running-first _ _ _ _ _ (start .pre .2), refl, refl)
 
 shared-slice-read-word-effect : tie.Need-shared-slice-read-word-effect Inv-loop μ-loop
 shared-slice-read-word-effect c =
@@ -48,16 +45,21 @@ shared-slice-read-word-effect c =
 word-effect-requires : tie.Need-word-effect-requires Inv-loop μ-loop
 word-effect-requires c κs =
     let start = start-of (c .before .before .before) in
-    (start .pre .0 .switches, start .pre .0 .lookups, start .pre .0 .defaults)
+    record {
+      order = start .pre .0;
+      switches = start .pre .1 .switches;
+      lookups = start .pre .1 .lookups;
+      defaults = start .pre .1 .defaults;
+    }
 
 apply-requires : tie.Need-apply-requires Inv-loop μ-loop
 apply-requires c κs =
     let word-effect = c .before .before .before in
     let loop = test-of word-effect .before in
     let start = start-of loop in (
-      rw (word-effect .word-effect .ensures (start .args .code .now))
-          (asks-writable _ (start .pre .0) _ _ _ _ _ _ _ _ (loop .loop .inv .0)),
-      next-fits _ (start .pre .0) _ _ _ _ _ _ _ _ (loop .loop .inv .0),
+      rw (word-effect .word-effect .ensures)
+          (asks-writable _ (start .pre .1) _ _ _ _ _ _ _ _ (loop .loop .inv .0)),
+      next-fits _ (start .pre .1) _ _ _ _ _ _ _ _ (loop .loop .inv .0),
       λ l. loop .loop .inv .0 .going l .fitting,
     )
 
@@ -73,9 +75,9 @@ returns c =
     let loop-test = test-of word-effect in
     let loop = loop-test .before in
     let start = start-of loop in
-    λ s l. halted-here _ (start .pre .0) _ _ _ _ _ _ _ _ (loop .loop .inv .0) (omega (arith, loop-test .loop-test .taken)) s l _
+    λ s l. halted-here _ (start .pre .1) _ _ _ _ _ _ _ _ (loop .loop .inv .0) (omega (arith, loop-test .loop-test .taken)) s l _
     (rw (
-      word-effect .word-effect .ensures (start .args .code .now),
+      word-effect .word-effect .ensures,
       c .enum-told .given .1,
     ) at (apply .apply .ensures s l))
 
@@ -87,9 +89,9 @@ returns-2 c =
     let loop-test = test-of word-effect in
     let loop = loop-test .before in
     let start = start-of loop in
-    λ s l. stopped-here _ (start .pre .0) _ _ _ _ _ _ _ _ (loop .loop .inv .0) (omega (arith, loop-test .loop-test .taken)) s l _ _
+    λ s l. stopped-here _ (start .pre .1) _ _ _ _ _ _ _ _ (loop .loop .inv .0) (omega (arith, loop-test .loop-test .taken)) s l _ _
     (rw (
-      word-effect .word-effect .ensures (start .args .code .now),
+      word-effect .word-effect .ensures,
       ending .ending .given .1,
     ) at (apply .apply .ensures s l))
 
@@ -111,10 +113,10 @@ loop-again c =
     let loop-test = test-of word-effect in
     let loop = loop-test .before in
     let start = start-of loop in (
-      running-next _ (start .pre .0) _ _ _ _ _ _ _ _ (loop .loop .inv .0) (omega (arith, loop-test .loop-test .taken)) _ _
+      running-next _ (start .pre .1) _ _ _ _ _ _ _ _ (loop .loop .inv .0) (omega (arith, loop-test .loop-test .taken)) _ _
           (λ (l : Lent). lendRun _ _ l)
           (λ s l. rw (
-            word-effect .word-effect .ensures (start .args .code .now),
+            word-effect .word-effect .ensures,
             to .to .given .1,
           ) at (apply .apply .ensures s l)),
       frames .frames .given ∙ loop .loop .inv .1,
@@ -135,7 +137,7 @@ returns-3 : tie.Need-returns-3 Inv-loop μ-loop
 returns-3 c =
     let loop = c .before in
     let start = start-of loop in
-    λ s l. spent-here _ (start .pre .0) _ _ _ _ _ _ _ _ (loop .loop .inv .0) (c .loop-test .left) s l
+    λ s l. spent-here _ (start .pre .1) _ _ _ _ _ _ _ _ (loop .loop .inv .0) (c .loop-test .left) s l
 
 pub go-spec : {M : Type 1} → statement M
 go-spec =
@@ -143,6 +145,10 @@ go-spec =
     (tie.spec
     Inv-loop
     μ-loop
+    (λ c. search needs)
+    (λ c. search needs)
+    (λ c. search needs)
+    (λ c. search needs)
     loop-holds
     (λ c. search needs)
     shared-slice-read-word-effect

@@ -15,4 +15,5 @@ returns-2 c = outside _ _ _ (c .if1 .left)
 pub load-global-spec : {M : Type 1} → statement M
 load-global-spec =
     tie.close
-    (tie.spec (λ c. search needs) (λ c. search needs) returns returns-2)
+    (tie.spec (λ c. search needs) (λ c. search needs) (λ c. search needs) (λ c. search needs) (λ c. search needs) (λ c. search needs)
+    (λ c. search needs) (λ c. search needs) returns returns-2)

@@ -24,4 +24,7 @@ returns-3 c =
 pub switch-spec : {M : Type 1} → statement M
 switch-spec =
     tie.close
-    (tie.spec returns (λ c κs. search needs) (λ c. search needs) (λ c. search needs) returns-2 returns-3)
+    (tie.spec (λ c. search needs) (λ c. search needs) (λ c. search needs) (λ c. search needs) (λ c. search needs) (λ c. search needs)
+    (λ c. search needs) (λ c. search needs) (λ c. search needs) (λ c. search needs) (λ c. search needs) (λ c. search needs)
+    (λ c. search needs) (λ c. search needs) (λ c. search needs) (λ c. search needs) returns (λ c κs. search needs) (λ c. search needs)
+    (λ c. search needs) returns-2 returns-3)

@@ -11,21 +11,21 @@ unfolding wordEffect
 returns c =
     let enum-told = c .before in
     let decode = enum-told .before .before in
-    λ code. rw (c .refusal .ensures, enum-told .enum-told .given .1, sym (decode .decode .ensures) ∙ enum-told .enum-told .given .1) refl
+    rw (c .refusal .ensures, enum-told .enum-told .given .1, sym (decode .decode .ensures) ∙ enum-told .enum-told .given .1) refl
 
 effect-of-requires : tie.Need-effect-of-requires
 effect-of-requires c κs =
     let decoded = c .before in
     let decode = decoded .before .before in
-    let start = decode .before .before .before .before .before .before .before .before .before in
-    (ok-op _ _ (sym (decode .decode .ensures) ∙ decoded .decoded .given .1), start .pre .0, start .pre .1, start .pre .2)
+    let start = decode .before .before in
+    (ok-op _ _ (sym (decode .decode .ensures) ∙ decoded .decoded .given .1), start .pre)
 
 returns-2 : tie.Need-returns-2
 unfolding wordEffect
 returns-2 c =
     let decoded = c .before .before in
     let decode = decoded .before .before in
-    λ code. rw (sym (decode .decode .ensures) ∙ decoded .decoded .given .1) (c .effect-of .ensures code)
+    rw (sym (decode .decode .ensures) ∙ decoded .decoded .given .1) (c .effect-of .ensures)
 
 pub word-effect-spec : {M : Type 1} → statement M
 word-effect-spec =

@@ -1,50 +1,23 @@
 -- `program::loader::check` meets its contract. Assumes nothing.
 use mathlib.Core.Path.{sym, _∙_}
 use borrow.Author.Tests.{not-true, not-false}
-use Rattle.program.specs.Image.{counts, verdict}
-use Rattle.program.proofs.Images.{refused-10, refused-11, refused-16, word-by-word}
-use borrow.Author.Needs.{needs}
+use Rattle.program.proofs.Layouts.{ordered, image-is, refused-unfit}
 use borrow.Author.Needs.{needs}
 use Rattle.program.proofs.loader.check.Statement.{statement}
 use Rattle.program.proofs.loader.check.Tie as tie
 
 returns : tie.Need-returns
-returns c =
-    let sizes-ok = c .before in
-    refused-10 _ _ (rw (← sizes-ok .sizes-ok .ensures) (not-true _ (c .if1 .taken)))
+returns c = refused-unfit _ (sym (c .before .fits2 .ensures) ∙ not-true _ (c .if1 .taken)) _
+
+check-cut-requires : tie.Need-check-cut-requires
+check-cut-requires c κs = ordered _ (sym (c .before .fits2 .ensures) ∙ not-false _ (c .if1 .left))
 
 returns-2 : tie.Need-returns-2
 returns-2 c =
-    let ends-in-halt = c .before in
-    let if1 = ends-in-halt .before in
-    let sizes-ok = if1 .before in
-    refused-11 _ _ (rw (← sizes-ok .sizes-ok .ensures) (not-false _ (if1 .if1 .left)))
-    (sym (ends-in-halt .ends-in-halt .ensures) ∙ not-true _ (c .if2 .taken))
-
-returns-3 : tie.Need-returns-3
-returns-3 c =
-    let below = c .before in
-    let if2 = below .before in
-    let ends-in-halt = if2 .before in
-    let if1 = ends-in-halt .before in
-    let sizes-ok = if1 .before in
-    refused-16 _ _ (rw (← sizes-ok .sizes-ok .ensures) (not-false _ (if1 .if1 .left)))
-    (sym (ends-in-halt .ends-in-halt .ensures) ∙ not-false _ (if2 .if2 .left)) (sym (below .below .ensures) ∙ not-true _ (c .if3 .taken))
-
-returns-4 : tie.Need-returns-4
-unfolding counts verdict
-returns-4 c =
-    let if3 = c .before in
-    let below = if3 .before in
-    let if2 = below .before in
-    let ends-in-halt = if2 .before in
-    let if1 = ends-in-halt .before in
-    let sizes-ok = if1 .before in
-    c .words .ensures ∙ word-by-word _ _ (rw (← sizes-ok .sizes-ok .ensures) (not-false _ (if1 .if1 .left)))
-    (sym (ends-in-halt .ends-in-halt .ensures) ∙ not-false _ (if2 .if2 .left)) (sym (below .below .ensures) ∙ not-false _ (if3 .if3 .left))
+    let if1 = c .before in
+    rw (image-is _ (sym (if1 .before .fits2 .ensures) ∙ not-false _ (if1 .if1 .left))) (c .check-cut .ensures)
 
 pub check-spec : {M : Type 1} → statement M
 check-spec =
     tie.close
-    (tie.spec (λ c κs. search needs) returns (λ c κs. search needs) returns-2 (λ c κs. search needs) returns-3 (λ c κs. search needs)
-    returns-4)
+    (tie.spec (λ c κs. search needs) returns check-cut-requires returns-2)

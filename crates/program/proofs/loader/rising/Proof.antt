@@ -10,27 +10,27 @@ use Rattle.program.proofs.loader.rising.Statement.{statement}
 use Rattle.program.proofs.loader.rising.Tie as tie
 
 abbrev Inv-loop : tie.InvT-loop
-Inv-loop ends entries from₀ i₀ from i = rising from (drop i ends) entries ≡ rising 0 ends entries
+Inv-loop start ends entries from₀ i₀ from i = rising from (drop i ends) entries ≡ rising start ends entries
 
 abbrev μ-loop : tie.MeasureT-loop
-μ-loop ends entries from₀ i₀ from i = length ends - i
+μ-loop start ends entries from₀ i₀ from i = length ends - i
 
 returns : tie.Need-returns Inv-loop μ-loop
 returns c =
     let loop-test = c .before .before in
     let loop = loop-test .before in
-    rising-fails _ _ _ _ (loop .loop .inv) (loop-test .loop-test .taken) (c .if1 .taken)
+    rising-fails _ _ _ _ _ (loop .loop .inv) (loop-test .loop-test .taken) (c .if1 .taken)
 
 loop-again : tie.Need-loop-again Inv-loop μ-loop
 loop-again c =
     let loop-test = c .before .before in
     let loop = loop-test .before in
-    rising-on _ _ _ _ (loop .loop .inv) (loop-test .loop-test .taken) (c .if1 .left)
+    rising-on _ _ _ _ _ (loop .loop .inv) (loop-test .loop-test .taken) (c .if1 .left)
 
 returns-2 : tie.Need-returns-2 Inv-loop μ-loop
 returns-2 c =
     let loop = c .before in
-    rising-end _ _ _ _ (loop .loop .inv) (c .loop-test .left)
+    rising-end _ _ _ _ _ (loop .loop .inv) (c .loop-test .left)
 
 pub rising-spec : {M : Type 1} → statement M
 rising-spec =

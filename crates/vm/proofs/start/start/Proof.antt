@@ -10,7 +10,7 @@ use Rattle.vm.proofs.start.start.Tie as tie
 -- ---- places: the start, and what was lent
 
 abbrev start-of : tie.After-frames-ok → tie.Start
-start-of c = c .before .before .before .before .before .before .before .before .before .before .before .before .before .before
+start-of c = c .before .before .before .before .before .before
 
 abbrev lent-to : tie.Start → Lent
 lent-to start = lentOf (start .args .frames .now) (start .args .heap .now) (start .args .slots .now) (start .args .spare .now)
