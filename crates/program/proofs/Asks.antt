@@ -14,7 +14,7 @@ use Rattle.program.specs.declared.Effect.{Effect}
 use Rattle.program.specs.declared.Effect.the-variants as effect
 use Rattle.program.specs.declared.effects.Entry.{Entry}
 use Rattle.program.specs.declared.effects.Entry.the-variants.{At, Missing}
-use Rattle.program.specs.Image.{Tables, rising, tablesOk, startOf, entriesOf}
+use Rattle.program.specs.Image.{Tables, rising, tablesFit, tablesOk, startOf, entriesOf}
 use Rattle.program.specs.Effect.{minus, within, slot, switched}
 
 -- a difference modulo 2 ^ 64, by what std::num says of it
@@ -74,9 +74,9 @@ module _ (t : Tables) (k : ℕ) (ok : tablesOk t ≡ true) (l : k < length (t .f
   parts : (eqb (length (t .ends)) (length (t .firsts)) ≡ true) × (rising 0 (t .ends) (length (t .entries)) ≡ true)
   unfolding tablesOk
   parts =
-      let a = both (leb (length (t .firsts)) 256) _ ok .1 in
-      let b = both (eqb (length (t .ends)) (length (t .firsts))) _ a in
-      (b .0, both (leb (length (t .entries)) 4096) _ (b .1) .1)
+      let fit = both (tablesFit (length (t .firsts)) (length (t .ends)) (length (t .entries))) _ ok in
+      let ends = both (leb (length (t .firsts)) 256) _ (fit .0) .1 in
+      (both (eqb (length (t .ends)) (length (t .firsts))) _ ends .0, fit .1)
 
   -- its end is there, not below its start, and no end is past the entries
   pub bounds : (k < length (t .ends)) × (startOf (t .ends) k ≤ getD (t .ends) k 0) × (getD (t .ends) k 0 ≤ length (t .entries))

@@ -66,12 +66,12 @@ unfoldable pub rising : ℕ → List ℕ → ℕ → Bool
 rising from [] to = eqb from to
 rising from (e ∷ es) to = leb from e && rising e es to
 
+-- of so many firsts, ends and entries
+abbrev pub tablesFit : ℕ → ℕ → ℕ → Bool
+tablesFit firsts ends entries = leb firsts 256 && (eqb ends firsts && leb entries 4096)
+
 unfoldable pub tablesOk : Tables → Bool
-tablesOk t =
-    leb (length (t .firsts)) 256
-    && (eqb (length (t .ends)) (length (t .firsts))
-    && (leb (length (t .entries)) 4096
-    && rising 0 (t .ends) (length (t .entries))))
+tablesOk t = tablesFit (length (t .firsts)) (length (t .ends)) (length (t .entries)) && rising 0 (t .ends) (length (t .entries))
 
 unfoldable pub imageOk : Image → Bool
 imageOk im =

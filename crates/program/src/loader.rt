@@ -1,10 +1,14 @@
 // What a start and every run refuse of an image: the loader's tests.
 ghost use mathlib.Core.Path.{_≡_};
-ghost use Prim.Native.Nat.{_≤_};
-ghost use lib.ListN.{length};
-ghost use Rattle.program.specs.Image.{tablesOf, rising, tablesOk, imageOk, endsInHalt, below, wordTests, imageTests, failing, verdict};
-ghost use Rattle.program.specs.Words.{between, fits, cut, imageIn, Ordered};
+ghost use mathlib.Core.Bool.{true};
+ghost use Rattle.program.specs.Image.{rising, tablesFit, imageOk, endsInHalt, below, wordTests, imageTests, failing, verdict};
+ghost use Rattle.program.specs.Words.{fits, cut, imageIn, Ordered};
 use crate::HEADER;
+use crate::LONGEST_IMAGE;
+use crate::MAX_CODE;
+use crate::MAX_ENTRIES;
+use crate::MAX_GLOBALS;
+use crate::MAX_TABLES;
 use anomaly::Refusal;
 use op::Checked;
 use op::Counts;
@@ -41,13 +45,11 @@ fn rising(start: u64, ends: &[u64], entries: usize) -> bool
     from == entries as u64
 }
 
-// Of tables whose firsts stand from a up to b, their ends up to c and their entries up to d.
-fn tables_ok(image: &[u64], a: usize, b: usize, c: usize, d: usize) -> bool
-    requires { ⌜ (a ≤ b) × (b ≤ c) × (c ≤ d) × (d ≤ length (now image)) ⌝ }
-    ensures { λ r. ⌜ r ≡ tablesOk (tablesOf (between a b (now (image .entry))) (between b c (now (image .entry))) (between c d (now (image .entry)))) ⌝ }
+// Of so many firsts, ends and entries of tables of one kind.
+fn tables_fit(firsts: usize, ends: usize, entries: usize) -> bool
+    ensures { λ r. ⌜ r ≡ tablesFit firsts ends entries ⌝ }
 {
-    let up = rising(0, &image[b..c], d - c);
-    (b - a <= 256) & ((c - b == b - a) & ((d - c <= 4096) & up))
+    (firsts <= MAX_TABLES) & ((ends == firsts) & (entries <= MAX_ENTRIES))
 }
 
 fn ends_in_halt(code: &[u64]) -> bool
@@ -75,7 +77,7 @@ fn words(code: &[u64], n: Counts) -> Checked
     Checked::Fine
 }
 
-// 10, of an image whose sections fit.
+// 10, of an image whose sections fit. The ends of its tables are read once every section is as long as it may be.
 fn sizes_ok(image: &[u64]) -> bool
     requires { ⌜ Ordered (now image) ⌝ }
     ensures { λ r. ⌜ r ≡ imageOk (cut (now (image .entry))) ⌝ }
@@ -89,23 +91,37 @@ fn sizes_ok(image: &[u64]) -> bool
     let lookup_entries = image[6] as usize;
     let defaults = image[7] as usize;
     let all = image[8] as usize;
-    let switches = tables_ok(
-        image,
-        switch_firsts,
-        switch_ends,
-        switch_entries,
-        lookup_firsts,
+    let switches = tables_fit(
+        switch_ends - switch_firsts,
+        switch_entries - switch_ends,
+        lookup_firsts - switch_entries,
     );
-    let lookups = tables_ok(image, lookup_firsts, lookup_ends, lookup_entries, defaults);
-    (globals - HEADER <= 65536)
-        & ((switch_firsts - globals <= 4096)
-            & (switches & (lookups & (all - defaults == lookup_ends - lookup_firsts))))
+    let lookups = tables_fit(
+        lookup_ends - lookup_firsts,
+        lookup_entries - lookup_ends,
+        defaults - lookup_entries,
+    );
+    if !((globals - HEADER <= MAX_CODE)
+        & ((switch_firsts - globals <= MAX_GLOBALS)
+            & (switches & (lookups & (all - defaults == lookup_ends - lookup_firsts))))) {
+        return false;
+    }
+    rising(
+        0,
+        &image[switch_ends..switch_entries],
+        lookup_firsts - switch_entries,
+    )
+        & rising(
+            0,
+            &image[lookup_ends..lookup_entries],
+            defaults - lookup_entries,
+        )
 }
 
 // The number by which an image whose sections fit is refused.
-fn check_cut(lent: bool, image: &[u64]) -> Checked
+fn check_cut(image: &[u64]) -> Checked
     requires { ⌜ Ordered (now image) ⌝ }
-    ensures { λ r. ⌜ r ≡ verdict (failing (imageTests lent (cut (now (image .entry))))) ⌝ }
+    ensures { λ r. ⌜ r ≡ verdict (failing (imageTests true (cut (now (image .entry))))) ⌝ }
 {
     let globals = image[0] as usize;
     let switch_firsts = image[1] as usize;
@@ -115,7 +131,7 @@ fn check_cut(lent: bool, image: &[u64]) -> Checked
     let lookup_ends = image[5] as usize;
     let code = &image[HEADER..globals];
     let targets = &image[from..to];
-    if !(lent & sizes_ok(image)) {
+    if !sizes_ok(image) {
         return Checked::Refused(Refusal::SIZE);
     }
     if !ends_in_halt(code) {
@@ -145,12 +161,19 @@ fn fits(image: &[u64]) -> bool
     rising(9, &image[..HEADER], image.len())
 }
 
-// The number by which an image is refused: 10, 11, 16, then word by word 12 to 15. `lent` is what 10 says of the buffers lent with it.
+// The number by which an image is refused: 10, 11, 16, then word by word 12 to 15. `lent` is what 10 says of the buffers lent with it. Where a
+// length is outside the limits nothing is read.
 pub fn check(lent: bool, image: &[u64]) -> Checked
     ensures { λ r. ⌜ r ≡ verdict (failing (imageTests lent (imageIn (now (image .entry))))) ⌝ }
 {
+    if !lent {
+        return Checked::Refused(Refusal::SIZE);
+    }
+    if LONGEST_IMAGE < image.len() {
+        return Checked::Refused(Refusal::SIZE);
+    }
     if !fits(image) {
         return Checked::Refused(Refusal::SIZE);
     }
-    check_cut(lent, image)
+    check_cut(image)
 }

@@ -14,14 +14,14 @@ start-of c = c .before .before .before .before .before .before .before .before .
 returns : tie.Need-returns
 returns c =
     let sizes-ok = c .before in
-    refused-10 _ _ (rw (← sizes-ok .sizes-ok .ensures) (not-true _ (c .if1 .taken)))
+    refused-10 _ _ (sym (sizes-ok .sizes-ok .ensures) ∙ not-true _ (c .if1 .taken))
 
 returns-2 : tie.Need-returns-2
 returns-2 c =
     let ends-in-halt = c .before in
     let if1 = ends-in-halt .before in
     let sizes-ok = if1 .before in
-    refused-11 _ _ (rw (← sizes-ok .sizes-ok .ensures) (not-false _ (if1 .if1 .left)))
+    refused-11 _ _ (sym (sizes-ok .sizes-ok .ensures) ∙ not-false _ (if1 .if1 .left))
     (sym (ends-in-halt .ends-in-halt .ensures) ∙ not-true _ (c .if2 .taken))
 
 returns-3 : tie.Need-returns-3
@@ -31,7 +31,7 @@ returns-3 c =
     let ends-in-halt = if2 .before in
     let if1 = ends-in-halt .before in
     let sizes-ok = if1 .before in
-    refused-16 _ _ (rw (← sizes-ok .sizes-ok .ensures) (not-false _ (if1 .if1 .left)))
+    refused-16 _ _ (sym (sizes-ok .sizes-ok .ensures) ∙ not-false _ (if1 .if1 .left))
     (sym (ends-in-halt .ends-in-halt .ensures) ∙ not-false _ (if2 .if2 .left)) (sym (below .below .ensures) ∙ not-true _ (c .if3 .taken))
 
 returns-4 : tie.Need-returns-4
@@ -44,7 +44,7 @@ returns-4 c =
     let sizes-ok = if1 .before in
     let start = start-of sizes-ok in
     c .words .ensures ∙ words-by (start .args .image .now) (start .pre) ∙ word-by-word _ (cut (start .args .image .now))
-    (rw (← sizes-ok .sizes-ok .ensures) (not-false _ (if1 .if1 .left)))
+    (sym (sizes-ok .sizes-ok .ensures) ∙ not-false _ (if1 .if1 .left))
     (sym (ends-in-halt .ends-in-halt .ensures) ∙ not-false _ (if2 .if2 .left)) (sym (below .below .ensures) ∙ not-false _ (if3 .if3 .left))
 
 pub check-cut-spec : {M : Type 1} → statement M
