@@ -39,6 +39,7 @@ extern "C" {
 /* ---- limits: a size or a base outside them is refused with GIRZHANOK_SIZE */
 
 #define GIRZHANOK_STATE_WORDS 40        /* words of a state, at least; those past them are left alone */
+#define GIRZHANOK_IMAGE_MAX 79113       /* words of an image: every section at its limit */
 #define GIRZHANOK_CODE_MAX 65536        /* words of code, from 0 */
 #define GIRZHANOK_GLOBALS_MAX 4096      /* globals, from 0 */
 #define GIRZHANOK_TABLES_MAX 256        /* tables of a kind */
@@ -63,6 +64,27 @@ extern "C" {
 #define GIRZHANOK_WORD_LEN 37           /* bytes of the last page in use */
 #define GIRZHANOK_WORD_ACTIVE 38        /* slots in use */
 #define GIRZHANOK_WORD_NAMES 39         /* names interned */
+
+/* ---- the words of an image: where its nine sections end, then the sections in a row
+ *
+ * An end is the place behind the section's last word, counted from the image's first word. So a section begins where the one before it ends,
+ * the code at word 9, and the ends go up from 9 to the number of words. docs/IMAGE.md has an image word by word, and how it is kept in a file.
+ *
+ *   word 0: code             instruction words
+ *   word 1: globals          values that LoadG loads; global n is word image[0] + n
+ *   words 2, 3, 4:           of the Switch tables the first keys; the ends; the entries, which are targets: places in the code, from 0
+ *   words 5, 6, 7:           the same of the Lookup tables; their entries are values
+ *   word 8: defaults         of each Lookup table its default
+ *
+ * The entries of all tables of a kind stand in a row. A table's end is the number of entries up to its last one; its entries begin where those
+ * of the table before it end, so these ends go up from 0 to the number of entries.
+ *
+ * A global that stands for a name holds its address, which this machine's interning has returned: the caller writes it there after the start,
+ * which has taken the ends as they are, and before a run. */
+
+#define GIRZHANOK_IMAGE_ENDS 9          /* words before the code */
+#define GIRZHANOK_END_CODE 0            /* the word that says where the code ends and the globals begin */
+#define GIRZHANOK_END_GLOBALS 1         /* the word that says where the globals end */
 
 /* ---- the kinds of blocks */
 
@@ -91,9 +113,9 @@ enum {
     /* refusals: nothing that was lent is changed, and nothing is answered but the number */
     GIRZHANOK_MEMORY = 2,               /* the heap has no room for the allocation */
     GIRZHANOK_STATE = 9,                /* a state that cannot belong to the buffers */
-    GIRZHANOK_SIZE = 10,                /* a size or the base outside the limits, too few words of a state, ends of tables that fall, or whose
-                                         * last, 0 where there is none, is not the number of entries, or not as many ends, or defaults,
-                                         * as first keys */
+    GIRZHANOK_SIZE = 10,                /* a size or the base outside the limits, too few words of a state, ends of sections that do not go
+                                         * up from 9 to the number of words or of tables that do not go up from 0 to the number of entries,
+                                         * not as many ends, or defaults, as first keys */
     GIRZHANOK_NO_HALT = 11,             /* code whose last word has another byte 0 than 59; empty code is taken */
     GIRZHANOK_OPCODE = 12,              /* 40 to 49, or above 60 */
     GIRZHANOK_OPERAND = 13,             /* a register above 31, a kind, an alignment, or an unused byte that is not zero */
@@ -105,34 +127,15 @@ enum {
     GIRZHANOK_TEXT = 19                 /* of image lines alone: no call here returns it */
 };
 
-/* ---- an image, in the order in which it is lent
- *
- *   code             instruction words
- *   globals          values that LoadG loads
- *   switch_firsts    of each Switch table its first key
- *   switch_ends      of each Switch table where its entries end in switch_entries; they begin where those of the one before end
- *   switch_entries   targets, as places in the code, of all Switch tables in a row
- *   lookup_firsts, lookup_ends, lookup_entries: the same of the Lookup tables; their entries are values
- *   defaults         of each Lookup table its default
- */
-
 /* Starts a machine with an empty heap at `base`: registers 0, pc 0, depth 1, no name. Writes the state, frame 0 and page 0 of the heap; of slots
  * and spare it reads the sizes. No buffer need be cleared before.
  * Refusals: SIZE, NO_HALT, TABLE_TARGET, then word by word OPCODE, OPERAND, TARGET, INDEX. */
 #if defined(__GNUC__) && !defined(__clang__) && __GNUC__ >= 11
 /* slots and spare: from this gcc knows that they may be lent as malloc gives them, and does not warn */
-__attribute__((access(none, 26), access(none, 28)))
+__attribute__((access(none, 10), access(none, 12)))
 #endif
 uint64_t girzhanok_start(uint64_t *state, size_t state_len, uint64_t base,
-                         const uint64_t *code, size_t code_len,
-                         const uint64_t *globals, size_t globals_len,
-                         const uint64_t *switch_firsts, size_t switch_firsts_len,
-                         const uint64_t *switch_ends, size_t switch_ends_len,
-                         const uint64_t *switch_entries, size_t switch_entries_len,
-                         const uint64_t *lookup_firsts, size_t lookup_firsts_len,
-                         const uint64_t *lookup_ends, size_t lookup_ends_len,
-                         const uint64_t *lookup_entries, size_t lookup_entries_len,
-                         const uint64_t *defaults, size_t defaults_len,
+                         const uint64_t *image, size_t image_len,
                          uint64_t *frames, size_t frames_len,
                          uint8_t *heap, size_t heap_len,
                          const uint64_t *slots, size_t slots_len,
@@ -141,19 +144,10 @@ uint64_t girzhanok_start(uint64_t *state, size_t state_len, uint64_t base,
 /* Runs the image from the stored pc on, `budget` instructions at most; it need not be the image of the start. Unless refused, writes the state,
  * frames, the pushed pages of the heap, `pc`, and to `steps` the instructions completed. A number up to 8 is an end; from 9 on the run is refused:
  * as a start is, then STATE. */
-uint64_t girzhanok_run(uint64_t *state, size_t state_len, uint32_t budget,
-                       const uint64_t *code, size_t code_len,
-                       const uint64_t *globals, size_t globals_len,
-                       const uint64_t *switch_firsts, size_t switch_firsts_len,
-                       const uint64_t *switch_ends, size_t switch_ends_len,
-                       const uint64_t *switch_entries, size_t switch_entries_len,
-                       const uint64_t *lookup_firsts, size_t lookup_firsts_len,
-                       const uint64_t *lookup_ends, size_t lookup_ends_len,
-                       const uint64_t *lookup_entries, size_t lookup_entries_len,
-                       const uint64_t *defaults, size_t defaults_len,
+uint64_t girzhanok_run(uint64_t *state, size_t state_len, uint32_t budget, size_t *pc, uint32_t *steps,
+                       const uint64_t *image, size_t image_len,
                        uint64_t *frames, size_t frames_len,
-                       uint8_t *heap, size_t heap_len,
-                       size_t *pc, uint32_t *steps);
+                       uint8_t *heap, size_t heap_len);
 
 /* Sets pc and frame 0 to 2^64-1 and the depth to 1; a run from there has nothing to run: set the pc first. Registers, heap and names stay.
  * Writes the state and frame 0. Refusals: SIZE. */

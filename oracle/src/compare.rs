@@ -153,7 +153,7 @@ fn steps_of(answer: Answer) -> u64 {
 }
 
 /// The first thing in which two machines differ, of all that document 01 compares.
-fn difference(model: &Model, ours: &View, theirs: &View, frame_0: bool) -> Option<String> {
+pub fn difference(model: &Model, ours: &View, theirs: &View, frame_0: bool) -> Option<String> {
     let word = |what: &str, a: u64, b: u64| (a != b).then(|| format!("{what}: model {a:x}h, other {b:x}h"));
     let words = |what: &str, a: &[u64], b: &[u64]| {
         if a == b {

@@ -137,3 +137,9 @@ pub trait Machine: Sized {
     fn call(&mut self, images: &[Image], call: &Call) -> Answer;
     fn view(&self) -> View<'_>;
 }
+
+/// A machine that is lent its images in words, and so any words.
+pub trait InWords: Machine {
+    fn start_on(lent: Lent, words: &[u64]) -> Result<Self, u8>;
+    fn run_on(&mut self, words: &[u64], budget: u64) -> Answer;
+}

@@ -3,19 +3,14 @@ use oracle::compare::{Counts, Outcome, compare};
 use oracle::machine::{Answer, Machine};
 use oracle::model::Model;
 use oracle::original::Original;
+use oracle::stored;
 use oracle::text;
-use std::path::Path;
 
 #[test]
 fn their_reports() {
-    let folder = Path::new(env!("CARGO_MANIFEST_DIR")).join("../examples");
-    let mut images = 0;
-    for entry in folder.read_dir().unwrap() {
-        let path = entry.unwrap().path();
-        if path.extension().is_none_or(|extension| extension != "image") {
-            continue;
-        }
-        images += 1;
+    let images = stored::examples();
+    assert!(images.len() >= 3);
+    for path in images {
         let input = std::fs::read(&path).unwrap();
         let expected = std::fs::read_to_string(path.with_extension("report")).unwrap();
         assert_eq!(text::report::<Model>(&input), expected, "{}", path.display());
@@ -28,5 +23,4 @@ fn their_reports() {
         let steps = u64::from_str_radix(&expected[18..26], 16).ok();
         assert_eq!(text::printed(&original, Answer::End { number, pc, steps }), expected);
     }
-    assert!(images >= 3);
 }

@@ -2,29 +2,11 @@
 use oracle::machine::{Answer, Call, Machine};
 use oracle::model::Model;
 use oracle::model::word::{Format, ROWS};
+use oracle::stored;
 use oracle::text;
-use std::path::Path;
 
 /// No more steps of one image are looked at.
 const STEPS: usize = 1000;
-
-/// The images of crates/vectors/stdin, whose form tools/vectors describes.
-fn images() -> Vec<Vec<u8>> {
-    let path = Path::new(env!("CARGO_MANIFEST_DIR")).join("../crates/vectors/stdin");
-    let data = std::fs::read(path).unwrap();
-    let (mut at, mut found) = (0, Vec::new());
-    while at < data.len() {
-        let end = at + data[at..].iter().position(|&b| b == b'\n').unwrap();
-        let line = std::str::from_utf8(&data[at..end]).unwrap();
-        at = end + 1;
-        if line.starts_with("-- ") {
-            let length = |digits: &str| usize::from_str_radix(digits, 16).unwrap();
-            found.push(data[at..at + length(&line[9..14])].to_vec());
-            at += length(&line[9..14]) + length(&line[15..18]);
-        }
-    }
-    found
-}
 
 /// Which opcodes an image completes, asked one step at a time.
 fn done(input: &[u8]) -> [bool; ROWS.len()] {
@@ -51,7 +33,7 @@ fn done(input: &[u8]) -> [bool; ROWS.len()] {
 
 #[test]
 fn each_instruction_is_done_in_three_images() {
-    let images = images();
+    let images = stored::vectors();
     assert!(images.len() > 1000);
     let mut counts = [0; ROWS.len()];
     for image in images {

@@ -8,10 +8,11 @@
 //! stopped inside a function has left its depth; [`State::set_pc`]; [`State::set_register`]; [`State::run`].
 //!
 //! ```
-//! use girzhanok::{End, Image, State};
+//! use girzhanok::{End, Image, Sections, State};
 //!
 //! // IDivI r1, r0, 100; Halt: a point for each whole unit
-//! let image = Image { words: &[11, 11, 11, 11, 11, 11, 11, 11, 11, 0x0000_0064_0000_0107, 59] };
+//! let words = Sections { code: &[0x0000_0064_0000_0107, 59], ..Sections::EMPTY }.join();
+//! let image = Image { words: &words };
 //! let (mut frames, mut heap) = ([0; 4], vec![0; 4096]);
 //! let (slots, spare) = ([0; 64], [0; 64]);
 //!
@@ -37,26 +38,13 @@
 #![warn(missing_docs)]
 
 mod ffi;
+mod image;
 mod limits;
 mod numbers;
 
+pub use image::{Image, Lookup, Sections, Switch};
 pub use limits::*;
 pub use numbers::{End, Refusal};
-
-/// What a machine is lent to run: the ends of nine sections, then the sections in a row.
-///
-/// They are code; globals; of the Switch tables the first keys, where the entries of each end, all entries; the same of the Lookup tables; of
-/// each of these its default. An end is the place in `words` behind the section's last word, so the ends go up from 9 to the number of words.
-#[derive(Clone, Copy, Debug)]
-pub struct Image<'a> {
-    /// Ends and sections.
-    pub words: &'a [u64],
-}
-
-impl Image<'static> {
-    /// No code, no globals, no tables.
-    pub const EMPTY: Self = Image { words: &[9; 9] };
-}
 
 /// What a block is allocated as.
 #[derive(Clone, Copy, Debug, PartialEq, Eq)]

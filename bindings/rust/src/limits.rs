@@ -1,7 +1,9 @@
-//! The limits, and the words of a state, named as in `include/girzhanok.h`. A test compares them with it and with the proved source.
+//! The limits, and the words of a state and of an image, named as in `include/girzhanok.h`. A test compares them with it and with the proved source.
 
 /// How many words a state has.
 pub const STATE_WORDS: usize = 40;
+/// Words of an image, at most: every section at its limit.
+pub const IMAGE_MAX: usize = 79113;
 /// Words of code, at most.
 pub const CODE_MAX: usize = 65536;
 /// Globals, at most.
@@ -45,3 +47,10 @@ pub const WORD_LEN: usize = 37;
 pub const WORD_ACTIVE: usize = 38;
 /// The word of how many names are interned.
 pub const WORD_NAMES: usize = 39;
+
+/// How many words say where the sections of an image end: those before its code.
+pub const IMAGE_ENDS: usize = 9;
+/// The word of an image that says where its code ends and its globals begin.
+pub const END_CODE: usize = 0;
+/// The word of an image that says where its globals end.
+pub const END_GLOBALS: usize = 1;

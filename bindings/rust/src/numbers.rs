@@ -33,8 +33,8 @@ pub enum Refusal {
     Memory = 2,
     /// A state that cannot belong to the buffers.
     State = 9,
-    /// A size or the base outside the limits, ends of tables that fall, or whose last, 0 where there is none, is not the number of
-    /// entries, or not as many ends, or defaults, as first keys.
+    /// A size or the base outside the limits, ends of an image's sections that do not go up from 9 to the number of words, ends of tables
+    /// that do not go up from 0 to the number of entries, or not as many ends, or defaults, as first keys.
     Size = 10,
     /// Code whose last word has another byte 0 than 59; empty code is taken.
     NoHalt = 11,

@@ -1,5 +1,7 @@
 //! Every call of the library through the safe interface, and refusals that change nothing.
-use girzhanok::{End, Image, Kind, Ran, Refusal, State, Tables, PAGE_SIZE, STATE_WORDS, WORD_DEPTH};
+use girzhanok::{
+    End, Image, Kind, Lookup, Ran, Refusal, Sections, State, Switch, IMAGE_MAX, PAGE_SIZE, STATE_WORDS, WORD_DEPTH,
+};
 
 const BASE: u64 = 65536;
 
@@ -31,7 +33,12 @@ fn small() -> Lent {
 }
 
 /// LoadI r0, 7; IAddI r1, r0, -1; Halt
-const COUNT: Image = Image { code: &[0x0000_0007_0000_001b, 0xffff_ffff_0000_0101, 59], ..Image::EMPTY };
+const COUNT: Image = Image { words: &[12, 12, 12, 12, 12, 12, 12, 12, 12, 0x0000_0007_0000_001b, 0xffff_ffff_0000_0101, 59] };
+
+/// The words of an image that is code alone.
+fn code(words: &[u64]) -> Vec<u64> {
+    Sections { code: words, ..Sections::EMPTY }.join()
+}
 
 #[test]
 fn the_worked_image() {
@@ -58,7 +65,8 @@ fn a_budget_is_completed_and_gone_on_with() {
 fn a_stopped_run_keeps_the_pc_from_before_it() {
     let mut lent = small();
     // LoadI r0, 7; IDiv r1, r0, r2; Halt
-    let image = Image { code: &[0x0000_0007_0000_001b, 0x0000_0000_0200_0106, 59], ..Image::EMPTY };
+    let words = code(&[0x0000_0007_0000_001b, 0x0000_0000_0200_0106, 59]);
+    let image = Image { words: &words };
     let mut state = lent.start(&image).unwrap();
     let ran = state.run(10, &image, &mut lent.frames, &mut lent.heap);
     assert_eq!(ran, Ok(Ran { end: End::DivisionByZero, pc: 1, steps: 1 }));
@@ -66,17 +74,45 @@ fn a_stopped_run_keeps_the_pc_from_before_it() {
 }
 
 #[test]
-fn tables_are_lent_flat() {
+fn sections_are_joined() {
+    let words = Sections {
+        code: &[0x3c, 59],
+        globals: &[7],
+        switches: &[Switch { first: 1, targets: &[0, 1] }, Switch { first: 5, targets: &[] }, Switch { first: 6, targets: &[1] }],
+        lookups: &[Lookup { first: 2, default: 9, values: &[3] }, Lookup { first: 4, default: 8, values: &[] }],
+    }
+    .join();
+    assert_eq!(words[..9], [11, 12, 15, 18, 21, 23, 25, 26, 28]);
+    assert_eq!(words[9..12], [0x3c, 59, 7], "code and globals");
+    assert_eq!(words[12..21], [1, 5, 6, 2, 2, 3, 0, 1, 1], "switches");
+    assert_eq!(words[21..], [2, 4, 1, 1, 3, 9, 8], "lookups");
+    assert_eq!(Sections::EMPTY.join(), Image::EMPTY.words);
+}
+
+#[test]
+fn a_global_has_a_place() {
+    let place = |words: &[u64], number| Image { words }.global(number);
+    let words = Sections { code: &[59], globals: &[4, 5], ..Sections::EMPTY }.join();
+    assert_eq!([0, 1, 2, usize::MAX].map(|number| place(&words, number)), [Some(10), Some(11), None, None]);
+    // ends that lead out of the words, into the ends, or nowhere
+    for (words, number) in [(&[0, 5][..], 0), (&[0, 5], 1), (&[0, 20, 0, 0, 0, 0, 0, 0, 0, 7], 8), (&[u64::MAX, u64::MAX], 0), (&[9], 0)] {
+        assert_eq!(place(words, number), None, "{words:?}");
+    }
+    assert_eq!(place(&[0, 20, 0, 0, 0, 0, 0, 0, 0, 7], 9), Some(9));
+}
+
+#[test]
+fn tables_of_both_kinds() {
     let mut lent = small();
     // Lookup r1, r0, Int, table 1; Switch Int r0, table 0; Halt; LoadI r2, 5; Halt
-    let code = [0x0000_0001_0100_0125, 0x0000_0000_0000_0124, 59, 0x0000_0005_0000_021b, 59];
-    let image = Image {
-        code: &code,
-        switches: Tables { firsts: &[10], ends: &[2], entries: &[2, 3] },
-        lookups: Tables { firsts: &[0, 10], ends: &[1, 3], entries: &[1, 20, 30] },
-        defaults: &[8, 9],
-        ..Image::EMPTY
-    };
+    let words = Sections {
+        code: &[0x0000_0001_0100_0125, 0x0000_0000_0000_0124, 59, 0x0000_0005_0000_021b, 59],
+        switches: &[Switch { first: 10, targets: &[2, 3] }],
+        lookups: &[Lookup { first: 0, default: 8, values: &[1] }, Lookup { first: 10, default: 9, values: &[20, 30] }],
+        ..Sections::EMPTY
+    }
+    .join();
+    let image = Image { words: &words };
     for (subject, value, loaded, steps) in [(10, 20, 0, 3), (11, 30, 5, 4), (12, 9, 0, 3)] {
         let mut state = lent.start(&image).unwrap();
         state.set_register(0, subject).unwrap();
@@ -87,29 +123,59 @@ fn tables_are_lent_flat() {
 }
 
 #[test]
-fn malformed_tables_are_refused() {
+fn malformed_images_are_refused() {
     let mut lent = small();
-    let mut refused = |switches, lookups, defaults| {
-        let image = Image { code: &[59], switches, lookups, defaults, ..Image::EMPTY };
-        assert_eq!(lent.start(&image), Err(Refusal::Size), "{image:?}");
+    let mut state = lent.start(&COUNT).unwrap();
+    let mut refused = |words: &[u64]| {
+        assert_eq!(lent.start(&Image { words }), Err(Refusal::Size), "{words:?}");
+        assert_eq!(state.run(9, &Image { words }, &mut lent.frames, &mut lent.heap), Err(Refusal::Size), "{words:?}");
     };
-    // ends that fall, that stop before the entries do, that go past them, and one too many
+    // too few words, and too many
+    for n in 0..9 {
+        refused(&[9; 9][..n]);
+    }
+    refused(&vec![9; IMAGE_MAX + 1]);
+    // one word more and one less than the ends say, and each end one off
+    refused(&[9, 9, 9, 9, 9, 9, 9, 9, 9, 0]);
+    refused(&COUNT.words[..11]);
+    for i in 0..9 {
+        for end in [11, 13, 0, u64::MAX] {
+            let mut words = COUNT.words.to_vec();
+            words[i] = end;
+            // the code one word shorter makes a global of its Halt: the sections fit
+            if (i, end) != (0, 11) {
+                refused(&words);
+            }
+        }
+    }
+    // of one table of either kind: ends that fall, that stop before the entries do, that go past them, and one too many
     for (firsts, ends, entries) in
         [(&[1, 1][..], &[2, 1][..], &[0, 0][..]), (&[1], &[1], &[0, 0]), (&[1], &[2], &[0]), (&[1], &[0, 1], &[0])]
     {
-        let tables = Tables { firsts, ends, entries };
-        refused(tables, Tables::EMPTY, &[]);
-        refused(Tables::EMPTY, tables, &[0, 0][..firsts.len()]);
+        refused(&joined(&[&[59], &[], firsts, ends, entries, &[], &[], &[], &[]]));
+        refused(&joined(&[&[59], &[], &[], &[], &[], firsts, ends, entries, &[0, 0][..firsts.len()]]));
     }
-    refused(Tables::EMPTY, Tables { firsts: &[1], ends: &[1], entries: &[0] }, &[]);
-    refused(Tables::EMPTY, Tables::EMPTY, &[0]);
+    // no default of a table, and one without a table
+    refused(&joined(&[&[59], &[], &[], &[], &[], &[1], &[1], &[0], &[]]));
+    refused(&joined(&[&[59], &[], &[], &[], &[], &[], &[], &[], &[0]]));
+}
+
+/// An image of sections that belong to no tables.
+fn joined(sections: &[&[u64]; 9]) -> Vec<u64> {
+    let mut end = 9;
+    let ends = sections.iter().map(|section| {
+        end += section.len() as u64;
+        end
+    });
+    ends.chain(sections.concat()).collect()
 }
 
 #[test]
 fn a_sale_after_one_that_stopped_in_a_function() {
     let mut lent = small();
     // Call 2; Halt; IDiv r1, r2, r0; Ret; Halt
-    let image = Image { code: &[0x0000_0002_0000_0027, 59, 0x0000_0000_0002_0106, 57, 59], ..Image::EMPTY };
+    let words = code(&[0x0000_0002_0000_0027, 59, 0x0000_0000_0002_0106, 57, 59]);
+    let image = Image { words: &words };
     let mut state = lent.start(&image).unwrap();
     let mut rate = |by: u64, depth: usize| {
         state.reset(&mut lent.frames).unwrap();
@@ -167,23 +233,22 @@ fn reset_leaves_registers_and_names() {
 
 #[test]
 fn a_refused_start_says_why() {
-    let refused = |lent: Lent, image: &Image, base: u64, why: Refusal| {
-        let mut after = lent.clone();
-        assert_eq!(State::start(base, image, &mut after.frames, &mut after.heap, &after.slots, &after.spare), Err(why));
+    let refused = |lent: Lent, words: &[u64], base: u64, why: Refusal| {
+        let (image, mut after) = (Image { words }, lent.clone());
+        assert_eq!(State::start(base, &image, &mut after.frames, &mut after.heap, &after.slots, &after.spare), Err(why));
         assert_eq!(after, lent);
     };
-    let code = |words| Image { code: words, ..Image::EMPTY };
-    refused(small(), &COUNT, BASE + 1, Refusal::Size);
-    refused(Lent::new(0, 2, 64), &COUNT, BASE, Refusal::Size);
-    refused(Lent::new(4, 0, 64), &COUNT, BASE, Refusal::Size);
-    refused(Lent::new(4, 2, 63), &COUNT, BASE, Refusal::Size);
+    refused(small(), COUNT.words, BASE + 1, Refusal::Size);
+    refused(Lent::new(0, 2, 64), COUNT.words, BASE, Refusal::Size);
+    refused(Lent::new(4, 0, 64), COUNT.words, BASE, Refusal::Size);
+    refused(Lent::new(4, 2, 63), COUNT.words, BASE, Refusal::Size);
     refused(small(), &code(&[60]), BASE, Refusal::NoHalt);
     refused(small(), &code(&[40, 59]), BASE, Refusal::Opcode);
     refused(small(), &code(&[0x201b, 59]), BASE, Refusal::Operand);
     refused(small(), &code(&[0x0002_001d, 59]), BASE, Refusal::Target);
     refused(small(), &code(&[0x1c, 59]), BASE, Refusal::Index);
-    let tables = Tables { firsts: &[0], ends: &[1], entries: &[1] };
-    refused(small(), &Image { code: &[59], switches: tables, ..Image::EMPTY }, BASE, Refusal::TableTarget);
+    let switches = &[Switch { first: 0, targets: &[1] }];
+    refused(small(), &Sections { code: &[59], switches, ..Sections::EMPTY }.join(), BASE, Refusal::TableTarget);
 }
 
 #[test]
@@ -197,8 +262,7 @@ fn a_refused_call_changes_nothing() {
     calls.push((Refusal::Operand, Box::new(|s, _| s.set_register(32, 1))));
     calls.push((Refusal::Size, Box::new(|s, _| s.reset(&mut []))));
     calls.push((Refusal::Size, Box::new(|s, l| s.run(9, &COUNT, &mut l.frames, &mut []).map(|_| ()))));
-    calls
-        .push((Refusal::NoHalt, Box::new(|s, l| s.run(9, &Image { code: &[60], ..Image::EMPTY }, &mut l.frames, &mut l.heap).map(|_| ()))));
+    calls.push((Refusal::NoHalt, Box::new(|s, l| s.run(9, &Image { words: &code(&[60]) }, &mut l.frames, &mut l.heap).map(|_| ()))));
     calls.push((Refusal::Operand, Box::new(|s, l| s.allocate(Kind::Array, 3, 8, &mut l.heap).map(|_| ()))));
     calls.push((Refusal::Operand, Box::new(|s, l| s.allocate_as(4, 8, 8, &mut l.heap).map(|_| ()))));
     calls.push((Refusal::Memory, Box::new(|s, l| s.allocate(Kind::Array, 8, u64::MAX, &mut l.heap).map(|_| ()))));

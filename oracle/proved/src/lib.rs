@@ -1,12 +1,12 @@
 //! The proved machine, by its library and the bindings to it. It is asked every call, refused ones and made-up states too, and its lent
 //! buffers are compared whole.
 use girzhanok::{
-    Refusal, State, STATE_WORDS, WORD_ACTIVE, WORD_BASE, WORD_DEPTH, WORD_LEN, WORD_NAMES, WORD_PAGE, WORD_PC,
-    WORD_PUSHED,
+    Refusal, State, STATE_WORDS, WORD_ACTIVE, WORD_BASE, WORD_DEPTH, WORD_LEN, WORD_NAMES, WORD_PAGE, WORD_PC, WORD_PUSHED,
 };
 use oracle::compare::Compared;
 use oracle::image::Image;
-use oracle::machine::{first, Answer, Buffer, Call, Field, Lent, Machine, View, Whole};
+use oracle::machine::{first, Answer, Buffer, Call, Field, InWords, Lent, Machine, View, Whole};
+use oracle::words;
 use std::borrow::Cow;
 
 pub struct Proved {
@@ -15,40 +15,6 @@ pub struct Proved {
     heap: Vec<u8>,
     slots: Vec<u64>,
     spare: Vec<u64>,
-}
-
-/// An image as it is lent: the ends of its sections, then the sections in a row.
-struct Flat {
-    words: Vec<u64>,
-}
-
-/// First keys, ends and entries.
-fn rows<'a>(tables: impl Iterator<Item = (u64, &'a Vec<u64>)>) -> [Vec<u64>; 3] {
-    let [mut firsts, mut ends, mut entries] = [const { Vec::new() }; 3];
-    for (first, slots) in tables {
-        firsts.push(first);
-        entries.extend(slots);
-        ends.push(entries.len() as u64);
-    }
-    [firsts, ends, entries]
-}
-
-impl Flat {
-    fn of(image: &Image) -> Self {
-        let [a, b, c] = rows(image.switches.iter().map(|t| (t.first, &t.targets)));
-        let [d, e, f] = rows(image.lookups.iter().map(|t| (t.first, &t.values)));
-        let defaults = image.lookups.iter().map(|t| t.default).collect();
-        let mut words = vec![0; 9];
-        for (i, section) in [&image.code, &image.globals, &a, &b, &c, &d, &e, &f, &defaults].into_iter().enumerate() {
-            words.extend(section);
-            words[i] = words.len() as u64;
-        }
-        Flat { words }
-    }
-
-    fn lend(&self) -> girzhanok::Image<'_> {
-        girzhanok::Image { words: &self.words }
-    }
 }
 
 /// A number of the table.
@@ -69,13 +35,6 @@ fn value(result: Result<u64, Refusal>) -> Answer {
 }
 
 impl Proved {
-    fn run(&mut self, image: &Image, budget: u32) -> Answer {
-        match self.state.run(budget, &Flat::of(image).lend(), &mut self.frames, &mut self.heap) {
-            Ok(ran) => Answer::End { number: byte(ran.end.number()), pc: ran.pc as u64, steps: Some(ran.steps.into()) },
-            Err(why) => refused(why),
-        }
-    }
-
     fn make_up(&mut self, field: Field, value: u64) {
         let word = match field {
             Field::Depth => WORD_DEPTH,
@@ -105,25 +64,38 @@ impl Proved {
     }
 }
 
-impl Machine for Proved {
-    fn start(lent: Lent, image: &Image) -> Result<Self, u8> {
-        let words = |n: u64| vec![u64::from_le_bytes([lent.fill; 8]); n as usize];
-        let (mut frames, mut heap) = (words(lent.frames), vec![lent.fill; lent.heap as usize]);
-        let (slots, spare) = (words(lent.slots), words(lent.spare));
-        match State::start(lent.base, &Flat::of(image).lend(), &mut frames, &mut heap, &slots, &spare) {
+impl InWords for Proved {
+    fn start_on(lent: Lent, words: &[u64]) -> Result<Self, u8> {
+        let fill = |n: u64| vec![u64::from_le_bytes([lent.fill; 8]); n as usize];
+        let (mut frames, mut heap) = (fill(lent.frames), vec![lent.fill; lent.heap as usize]);
+        let (slots, spare) = (fill(lent.slots), fill(lent.spare));
+        match State::start(lent.base, &girzhanok::Image { words }, &mut frames, &mut heap, &slots, &spare) {
             Ok(state) => Ok(Self { state, frames, heap, slots, spare }),
             Err(why) => {
-                let kept = frames == words(lent.frames) && heap.iter().all(|&b| b == lent.fill);
+                let kept = frames == fill(lent.frames) && heap.iter().all(|&b| b == lent.fill);
                 assert!(kept, "a refused start has written to the frames or the heap");
                 Err(byte(why.number()))
             }
         }
     }
 
+    fn run_on(&mut self, words: &[u64], budget: u64) -> Answer {
+        match self.state.run(budget as u32, &girzhanok::Image { words }, &mut self.frames, &mut self.heap) {
+            Ok(ran) => Answer::End { number: byte(ran.end.number()), pc: ran.pc as u64, steps: Some(ran.steps.into()) },
+            Err(why) => refused(why),
+        }
+    }
+}
+
+impl Machine for Proved {
+    fn start(lent: Lent, image: &Image) -> Result<Self, u8> {
+        Self::start_on(lent, &words::write(image))
+    }
+
     fn call(&mut self, images: &[Image], call: &Call) -> Answer {
         let Self { state, frames, heap, slots, spare } = self;
         match *call {
-            Call::Run { image, budget } => self.run(&images[image], budget as u32),
+            Call::Run { image, budget } => self.run_on(&words::write(&images[image]), budget),
             Call::Reset => done(state.reset(frames)),
             Call::SetPc(pc) => {
                 state.set_pc(pc as usize);

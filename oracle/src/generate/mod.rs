@@ -5,6 +5,7 @@ mod limits;
 pub mod program;
 pub mod rng;
 pub mod values;
+mod words;
 
 use crate::case::Case;
 use crate::compare::Compared;
@@ -18,6 +19,14 @@ pub fn case_for<M: Compared>(seed: u64, number: u64) -> Case {
 /// Lists in which the host hands back another state or buffer than it got: for machines that give 9 and 10, so not for the original.
 pub fn made_up(seed: u64, number: u64) -> Case {
     calls::made_up(&mut Rng::of(seed, number))
+}
+
+/// A case whose first image is damaged, and the words that it is then: of one of these cases or, at times, of one that is made.
+pub fn damaged_words(seed: u64, number: u64, stored: &[Case]) -> (Case, Vec<u64>) {
+    let rng = &mut Rng::of(seed, number);
+    let case = if rng.one_in(2) { calls::programs(rng) } else { rng.one_of(stored).clone() };
+    let words = words::damaged(rng, &crate::words::write(&case.images[0]));
+    (case, words)
 }
 
 /// An image's text, damaged in most cases.

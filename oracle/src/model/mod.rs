@@ -12,7 +12,8 @@ pub mod word;
 
 use crate::anomaly::{OPERAND, SIZE, SMALL_STRING, STATE};
 use crate::image::Image;
-use crate::machine::{Answer, Buffer, Call, Field, Lent, Machine, PAGE, View, Whole, first};
+use crate::machine::{Answer, Buffer, Call, Field, InWords, Lent, Machine, PAGE, View, Whole, first};
+use crate::words;
 use std::borrow::Cow;
 
 pub use names::{hash, small_hash, small_word};
@@ -327,6 +328,20 @@ impl Machine for Model {
             names: s.names,
             pages: Some(Cow::Borrowed(&self.pages)),
             whole: Some(Whole { frames: &self.frames, heap: &self.heap, slots: &self.slots, spare: &self.spare }),
+        }
+    }
+}
+
+/// Words that are no image's are a size outside the limits, and 10 is the first number of all.
+impl InWords for Model {
+    fn start_on(lent: Lent, words: &[u64]) -> Result<Self, u8> {
+        Self::start(lent, &words::read(words).ok_or(SIZE)?)
+    }
+
+    fn run_on(&mut self, words: &[u64], budget: u64) -> Answer {
+        match words::read(words) {
+            Some(image) => self.call(&[image], &Call::Run { image: 0, budget }),
+            None => Answer::Refused(SIZE),
         }
     }
 }
