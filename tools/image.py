@@ -1,14 +1,19 @@
-"""An image's text: document 01, 'The image runner reads lower-case lines'."""
+"""An image in its two forms, text and words: docs/IMAGE.md."""
 
 import re
+import struct
 
 # The fields of line `00`, with their digits.
 HEADER = [("base", 16), ("pages", 4), ("frames", 4), ("slots", 4), ("budget", 8)]
 LONGEST = 65536
+# How many words say where the sections end, and how many words the largest image has.
+ENDS = 9
+MOST_WORDS = 79113
 
 
 class Image:
     def __init__(self):
+        # of an image that was read from words, nothing
         self.header = {}
         self.code = []
         # (first, targets) and (first, default, values)
@@ -28,9 +33,35 @@ class Image:
         lines += ["05" + value.hex() if isinstance(value, bytes) else f"02{value:016x}" for value in self.globals]
         return "".join(line + "\n" for line in lines)
 
+    def words(self):
+        """A name's global is 0: the host interns the name and writes its address there."""
+        sections = [
+            self.code,
+            [0 if isinstance(value, bytes) else value for value in self.globals],
+            *lists(self.switches),
+            *lists([(first, values) for first, _, values in self.lookups]),
+            [default for _, default, _ in self.lookups],
+        ]
+        ends = [ENDS + sum(map(len, sections[: i + 1])) for i in range(ENDS)]
+        return ends + sum(sections, [])
+
+    def binary(self):
+        """The words as a file has them, each in 8 bytes, the lowest first."""
+        words = self.words()
+        return struct.pack(f"<{len(words)}Q", *words)
+
+
+def lists(tables):
+    """First keys, ends and entries of tables of one kind."""
+    entries, ends = [], []
+    for _, of_table in tables:
+        entries.extend(of_table)
+        ends.append(len(entries))
+    return [first for first, _ in tables], ends, entries
+
 
 class Malformed(Exception):
-    """What the runner answers with 19."""
+    """What the runner answers with 19, or in words a machine with 10."""
 
 
 def groups(digits, each):
@@ -81,6 +112,50 @@ def line_of(image, line, first_line):
         image.globals.append(bytes(groups(digits, 2)))
     else:
         raise Malformed(f"no kind {kind!r}")
+
+
+def is_binary(data):
+    """Whether a file holds words: the first one, which is at most 65,545, has bytes that are zero, and a text has none."""
+    return 0 in data[:8]
+
+
+def read_binary(data):
+    if len(data) % 8:
+        raise Malformed(f"{len(data)} bytes, and a word has 8")
+    return read_words(list(struct.unpack(f"<{len(data) // 8}Q", data)))
+
+
+def read_words(words):
+    if len(words) < ENDS:
+        raise Malformed(f"{len(words)} words, and {ENDS} say where the sections end")
+    image = Image()
+    sections = cut(ENDS, words[:ENDS], words, "section", "words")
+    image.code, image.globals = sections[:2]
+    image.switches = tables(*sections[2:5], "switch")
+    lookups, defaults = tables(*sections[5:8], "lookup"), sections[8]
+    if len(defaults) != len(lookups):
+        raise Malformed(f"{len(lookups)} lookup tables, and {len(defaults)} defaults")
+    image.lookups = [(first, default, values) for (first, values), default in zip(lookups, defaults)]
+    return image
+
+
+def cut(start, ends, all, what, of):
+    """The parts that end there: the ends go up from the start to the number of all."""
+    found, before = [], start
+    for number, end in enumerate(ends):
+        if end < before:
+            raise Malformed(f"{what} {number} ends at {end}, before it begins at {before}")
+        found.append(all[before:end])
+        before = end
+    if before != len(all):
+        raise Malformed(f"the last {what} ends at {before}, and there are {len(all)} {of}")
+    return found
+
+
+def tables(firsts, ends, entries, kind):
+    if len(ends) != len(firsts):
+        raise Malformed(f"{len(firsts)} first keys of {kind} tables, and {len(ends)} ends")
+    return list(zip(firsts, cut(0, ends, entries, f"{kind} table", "entries")))
 
 
 def addresses(base, names):

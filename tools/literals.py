@@ -39,3 +39,17 @@ def unescaped(text, named):
         else:
             raise Wrong(f"no such escape: \\{escape}")
     return out
+
+
+def escaped(name):
+    """A string as listings have it."""
+
+    def char(byte):
+        return chr(byte) if 32 <= byte < 127 and byte not in b'"\\' else f"\\x{byte:02x}"
+
+    return '"' + "".join(map(char, name)) + '"'
+
+
+def field(name, value):
+    """A field of the header as listings have it."""
+    return f"{name} {value:#x}" if name == "base" else f"{name} {value}"

@@ -1,7 +1,5 @@
 //! Every call of the library through the safe interface, and refusals that change nothing.
-use girzhanok::{
-    End, Image, Kind, Lookup, Ran, Refusal, Sections, State, Switch, IMAGE_MAX, PAGE_SIZE, STATE_WORDS, WORD_DEPTH,
-};
+use girzhanok::{End, Image, Kind, Lookup, Ran, Refusal, Sections, State, Switch, IMAGE_MAX, PAGE_SIZE, STATE_WORDS, WORD_DEPTH};
 
 const BASE: u64 = 65536;
 
