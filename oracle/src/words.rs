@@ -1,5 +1,5 @@
-//! An image in words, as it is lent: docs/IMAGE.md, 'In words'. 'Nine words that say where its sections end, going up from 9 to the number of
-//! words'; then the sections: code, globals, of the `Switch` tables first keys, ends and entries, the same of the `Lookup` tables, defaults.
+//! An image in words, as it is lent: docs/IMAGE.md, 'An image's words'. 'The first nine words say where the sections end', and 'the ends go up,
+//! from 9 to the number of words'; then code, globals, of the `Switch` tables first keys, ends and entries, the same of the `Lookup` tables, defaults.
 use crate::image::{Image, Lookup, Switch};
 
 const SECTIONS: usize = 9;

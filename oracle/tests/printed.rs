@@ -1,12 +1,13 @@
-//! What the programs host_calls, known_answers and examples/c/rate.c print, worked out again: by the model, and by the original wherever
-//! it can be asked. Their stored outputs must be that.
+//! What the programs host_calls, known_answers, examples/c/rate.c and load.c print, worked out again: by the model, and by the original
+//! wherever it can be asked. Their stored outputs must be that.
 use oracle::compare::{Ask, Compared};
 use oracle::generate::program::word;
 use oracle::image::{Image, Switch};
-use oracle::machine::{Answer, Call, Field, Lent, Machine};
+use oracle::machine::{Answer, Call, Field, InWords, Lent, Machine};
 use oracle::model::word::{Counts, op, refusal};
 use oracle::model::{self, Model};
 use oracle::original::Original;
+use oracle::words;
 use purple_garden_runtime::Value;
 use purple_garden_runtime::string::{self, StrTable};
 use std::fmt::Write;
@@ -271,4 +272,61 @@ fn the_example_in_c() {
     }
     assert_eq!(both.agreed, 13);
     assert_eq!(out, stored("examples/c/rate.stdout"));
+}
+
+/// Of a file's bytes, lowest first.
+fn words_of(file: &[u8]) -> Vec<u64> {
+    file.chunks_exact(8).map(|bytes| u64::from_le_bytes(bytes.try_into().unwrap())).collect()
+}
+
+#[test]
+fn the_example_that_loads_words() {
+    let _one = one();
+    let file = std::fs::read(PathBuf::from(env!("CARGO_MANIFEST_DIR")).join("../examples/points_by_tier.words")).unwrap();
+    let mut image = words::read(&words_of(&file)).unwrap();
+    let mut out = format!("{} words, {} of them code\n", file.len() / 8, image.code.len());
+    let mut both = Both::start();
+    let intern = |both: &mut Both, name: &str| match both.call(&[], &Call::Intern(name.into())) {
+        Answer::Value(value) => value,
+        other => panic!("{other:?}"),
+    };
+    for (global, name) in ["bronze", "silver", "gold"].into_iter().enumerate() {
+        image.globals[global] = intern(&mut both, name);
+    }
+    for tier in ["silver", "gold"] {
+        image.globals[3] = intern(&mut both, tier);
+        both.call(&[], &Call::Reset);
+        both.call(&[], &Call::SetPc(0));
+        let answer = both.call(std::slice::from_ref(&image), &Call::Run { image: 0, budget: 100 });
+        let Answer::End { number, pc, steps: Some(steps) } = answer else { panic!("{answer:?}") };
+        writeln!(out, "{tier}: end {number} at {pc} after {steps} steps, {} points", both.model.state.regs[0]).unwrap();
+    }
+    assert_eq!(both.agreed, 11);
+    // so many bytes, one of them another
+    let whole = file.len();
+    let (code, code_end, globals_end) = (9 * 8, (9 + 13) * 8, (9 + 13 + 5) * 8);
+    for (what, count, at, byte) in [
+        ("whole", whole, 0, file[0]),
+        ("nothing", 0, 0, file[0]),
+        ("cut behind its ends", code, 0, file[0]),
+        ("cut by its last word", whole - 8, 0, file[0]),
+        ("cut inside a word", whole - 3, 0, file[0]),
+        ("the code's end one less", whole, 0, file[0] - 1),
+        ("the code's end 2^56 more", whole, 7, 1),
+        ("the last Halt a Nop", whole, code_end - 8, op::Nop),
+        ("an opcode that is none", whole, code, 61),
+        ("a register that is none", whole, code + 1, 32),
+        ("a global past the last one", whole, code + 4, 5),
+        ("a table's target past the code", whole, globals_end + 16, 13),
+    ] {
+        let mut damaged = file.clone();
+        damaged[at] = byte;
+        if count % 8 != 0 {
+            writeln!(out, "{what}: {count} bytes are no words").unwrap();
+            continue;
+        }
+        let number = Model::start_on(LENT, &words_of(&damaged[..count])).err().unwrap_or(0);
+        writeln!(out, "{what}: {number}").unwrap();
+    }
+    assert_eq!(out, stored("examples/c/load.stdout"));
 }
