@@ -13,6 +13,8 @@
 #define BASE 65536
 #define WORDS GIRZHANOK_STATE_WORDS
 #define ENDS GIRZHANOK_IMAGE_ENDS
+/* code, globals, three lists of Switch tables, three of Lookup tables, defaults */
+#define SECTIONS 9
 #define COUNT(a) (sizeof(a) / sizeof((a)[0]))
 
 static unsigned checks;
@@ -41,7 +43,7 @@ static struct lent {
     uint8_t heap[2 * GIRZHANOK_PAGE_SIZE];
 } l, before;
 
-static const uint64_t empty[ENDS] = {9, 9, 9, 9, 9, 9, 9, 9, 9};
+static const uint64_t empty[16] = {9, 9, 9, 9, 9, 9, 9, 9, 9};
 static const uint64_t halt[] = {10, 10, 10, 10, 10, 10, 10, 10, 10, 59};
 static const uint8_t name[] = {0x61};
 
@@ -107,6 +109,19 @@ static void null_that_is_fine(void)
     EXPECT(0, l.steps);
 }
 
+/* an image with something in its first five sections: its globals lie where the header says */
+static void globals_have_places(void)
+{
+    /* LoadG r0, 1; Halt; two globals; a Switch table of one target */
+    static uint64_t rule[] = {11, 13, 14, 15, 16, 16, 16, 16, 16, 0x000000010000001c, 59, 0, 0, 5, 1, 0};
+    EXPECT(11, rule[GIRZHANOK_END_CODE]);
+    EXPECT(13, rule[GIRZHANOK_END_GLOBALS]);
+    EXPECT(0, girzhanok_start(l.state, WORDS, BASE, rule, COUNT(rule), FRAMES, HEAP, SLOTS, SPARE));
+    rule[rule[GIRZHANOK_END_CODE] + 1] = 76;
+    EXPECT(0, girzhanok_run(l.state, WORDS, 9, ANSWER, rule, COUNT(rule), FRAMES, HEAP));
+    EXPECT(76, l.state[0]);
+}
+
 /* ---- limits */
 
 /* a start on so many of each */
@@ -132,10 +147,10 @@ static uint8_t heap[(GIRZHANOK_PAGES_MAX + 1) * GIRZHANOK_PAGE_SIZE];
 static uint64_t slots[2 * GIRZHANOK_SLOTS_MAX];
 
 /* writes the ends of sections of so many words, and gives how many words the image has */
-static size_t ends(uint64_t *to, const size_t counts[ENDS])
+static size_t ends(uint64_t *to, const size_t counts[SECTIONS])
 {
     size_t end = ENDS;
-    for (size_t i = 0; i < ENDS; i++)
+    for (size_t i = 0; i < SECTIONS; i++)
         to[i] = end += counts[i];
     return end;
 }
@@ -143,7 +158,7 @@ static size_t ends(uint64_t *to, const size_t counts[ENDS])
 /* an image of Halts and zeros; the last table of a kind has all entries */
 static size_t filled(struct sizes n)
 {
-    const size_t counts[ENDS] = {
+    const size_t counts[SECTIONS] = {
         n.code, n.globals, n.switches, n.switches, n.switch_entries, n.lookups, n.lookups, n.lookup_entries, n.lookups,
     };
     memset(image, 0, sizeof image);
@@ -258,7 +273,7 @@ static void answered(uint64_t wanted, size_t words, int line)
 /* a Halt and the same tables as those of Switch and as those of Lookup, so many of each list */
 static void tables(uint64_t wanted, size_t firsts, const uint64_t *at, size_t n, size_t entries, size_t defaults, int line)
 {
-    const size_t of_switch[ENDS] = {1, 0, firsts, n, entries, 0, 0, 0, 0}, of_lookup[ENDS] = {1, 0, 0, 0, 0, firsts, n, entries, defaults};
+    const size_t of_switch[SECTIONS] = {1, 0, firsts, n, entries, 0, 0, 0, 0}, of_lookup[SECTIONS] = {1, 0, 0, 0, 0, firsts, n, entries, defaults};
     memset(image, 0, sizeof image);
     image[ENDS] = 59;
     size_t words = ends(image, of_switch);
@@ -289,7 +304,7 @@ static void malformed_tables(void)
     TABLES(GIRZHANOK_SIZE, 1, rising, 2, 3, 1);
     TABLES(GIRZHANOK_SIZE, 3, rising, 2, 3, 3);
     /* defaults too few, and without a table */
-    const size_t few[ENDS] = {0, 0, 0, 0, 0, 1, 1, 0, 0}, none[ENDS] = {0, 0, 0, 0, 0, 0, 0, 0, 1};
+    const size_t few[SECTIONS] = {0, 0, 0, 0, 0, 1, 1, 0, 0}, none[SECTIONS] = {0, 0, 0, 0, 0, 0, 0, 0, 1};
     memset(image, 0, sizeof image);
     IMAGE(GIRZHANOK_SIZE, ends(image, few));
     IMAGE(GIRZHANOK_SIZE, ends(image, none));
@@ -307,7 +322,7 @@ static void malformed_ends(void)
     for (size_t i = 0; i < words + 3; i++)
         if (i != words)
             IMAGE(GIRZHANOK_SIZE, i);
-    for (size_t i = 0; i < ENDS; i++) {
+    for (size_t i = 0; i < SECTIONS; i++) {
         const uint64_t end = image[i];
         for (size_t j = 0; j < COUNT(far); j++) {
             image[i] = far[j];
@@ -411,7 +426,7 @@ static void nothing_behind(void)
 /* sections that are too long by their ends, with nothing behind the ends: their words are not read */
 static void nothing_behind_the_ends(uint64_t *image)
 {
-    static const size_t counts[][ENDS] = {
+    static const size_t counts[][SECTIONS] = {
         {GIRZHANOK_CODE_MAX + 1},
         {0, GIRZHANOK_GLOBALS_MAX + 1},
         {0, 0, GIRZHANOK_TABLES_MAX + 1, GIRZHANOK_TABLES_MAX + 1},
@@ -465,6 +480,7 @@ int main(void)
     too_few_words(l.state, WORDS - 1);
     too_few_words(NULL, 0);
     no_buffers();
+    globals_have_places();
     EXPECT(77, l.state[WORDS]);
     limits();
     malformed_tables();
