@@ -1,8 +1,8 @@
 //! Damaged images in words: each copy is given to the model and to another machine, which have to answer alike.
 use crate::case::Case;
 use crate::compare::{Compared, difference};
+use crate::comparison::{Options, in_turn};
 use crate::generate;
-use crate::guard::{self, Ended, Shared};
 use crate::image::Image;
 use crate::machine::{Answer, Call, InWords, Machine};
 use crate::model::Model;
@@ -122,41 +122,16 @@ pub fn sources() -> Vec<Case> {
     examples.chain(stored::vectors()).filter_map(|input| text::case(&input)).collect()
 }
 
-/// `--cases N --seed S --from I`: damaged copies, the model and another machine side by side.
-pub fn command<M: InWords + Compared>(options: &[&str], usage: &str) -> ExitCode {
-    let (mut cases, mut seed, mut from) = (100_000, 1, 0);
-    for option in options.chunks(2) {
-        match (option[0], option.get(1).and_then(|n| n.parse::<u64>().ok())) {
-            ("--cases", Some(n)) => cases = n,
-            ("--seed", Some(n)) => seed = n,
-            ("--from", Some(n)) => from = n,
-            _ => {
-                eprintln!("{usage}");
-                return ExitCode::from(2);
-            }
-        }
-    }
+/// Damaged copies, the model and another machine side by side.
+pub fn comparison<M: InWords + Compared>(options: &[&str], usage: &str) -> ExitCode {
+    let Some(options) = Options::read(options) else {
+        eprintln!("{usage}");
+        return ExitCode::from(2);
+    };
     let sources = sources();
-    // in a child, which tells at which case it is: see `guard`
-    let now = Shared::new();
-    let ended = guard::child(|| {
-        let mut tally = Tally::default();
-        for number in from..from + cases {
-            now.set(number);
-            guard::seconds(60);
-            let (case, words) = generate::damaged_words(seed, number, &sources);
-            if let Err(what) = compare::<M>(&case, &words, &mut tally) {
-                println!("the model and {} differ: {what}\n{case}image 0, damaged:\n{words:x?}", M::NAME);
-                return 1;
-            }
-        }
-        print!("{tally}");
-        0
+    let found = in_turn(&options, M::NAME, |tally: &mut Tally, number| {
+        let (case, words) = generate::damaged_words(options.seed, number, &sources);
+        compare::<M>(&case, &words, tally).map_err(|what| format!("{what}\n{case}image 0, damaged:\n{words:x?}"))
     });
-    match ended {
-        Ended::Exit(0) => return ExitCode::SUCCESS,
-        Ended::Exit(status) => println!("seed {seed}, case {}: status {status}", now.get()),
-        Ended::Signal(signal) => println!("seed {seed}, case {}: dies by signal {signal}", now.get()),
-    }
-    ExitCode::FAILURE
+    if found.is_none() { ExitCode::SUCCESS } else { ExitCode::FAILURE }
 }
