@@ -2,7 +2,6 @@
  * file cut or damaged: load examples/points_by_tier.words */
 #include <inttypes.h>
 #include <stdio.h>
-#include <stdlib.h>
 #include <string.h>
 
 #include "girzhanok.h"
