@@ -1,4 +1,5 @@
-//! The limits, and the words of a state and of an image, named as in `include/girzhanok.h`. A test compares them with it and with the proved source.
+//! The limits, and the words of a state and of an image, named as in `include/girzhanok.h`. A test compares them with it and with the
+//! proved source.
 
 /// How many words a state has.
 pub const STATE_WORDS: usize = 40;

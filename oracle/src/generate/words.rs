@@ -12,6 +12,10 @@ pub fn damaged(rng: &mut Rng, image: &[u64]) -> Vec<u64> {
     for _ in 0..*rng.one_of(&[1, 1, 1, 1, 2, 3]) {
         damage(rng, &mut words);
     }
+    // two changes may undo each other
+    if words == image {
+        words.push(edge(rng, image.len() as u64));
+    }
     // the longest image there can be, and one word more
     if rng.one_in(1000) {
         words.resize(MOST + rng.below(2) as usize, 59);
