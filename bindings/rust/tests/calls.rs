@@ -99,6 +99,28 @@ fn a_global_has_a_place() {
     assert_eq!(place(&[0, 20, 0, 0, 0, 0, 0, 0, 0, 7], 9), Some(9));
 }
 
+/// The rule of examples/points_by_tier.asm: names are globals 0 to 2, the sale's tier is global 3.
+#[test]
+fn a_rule_from_a_file() {
+    let file = include_bytes!("../../../examples/points_by_tier.words");
+    let mut words: Vec<u64> = file.chunks_exact(8).map(|bytes| u64::from_le_bytes(bytes.try_into().unwrap())).collect();
+    let mut lent = Lent::new(4, 1, 64);
+    let mut state = lent.start(&Image { words: &words }).unwrap();
+    for (number, name) in ["bronze", "silver", "gold"].into_iter().enumerate() {
+        let place = Image { words: &words }.global(number).unwrap();
+        words[place] = lent.intern(&mut state, name.as_bytes()).unwrap();
+    }
+    let tier = Image { words: &words }.global(3).unwrap();
+    // 47 full units: one point each, two, three and 50, none
+    for (name, points) in [("bronze", 47), ("silver", 94), ("gold", 191), ("none", 0)] {
+        words[tier] = lent.intern(&mut state, name.as_bytes()).unwrap();
+        state.reset(&mut lent.frames).unwrap();
+        state.set_pc(0);
+        let ran = state.run(100, &Image { words: &words }, &mut lent.frames, &mut lent.heap).unwrap();
+        assert_eq!((ran.end, state.registers()[0]), (End::Halt, points), "{name}");
+    }
+}
+
 #[test]
 fn tables_of_both_kinds() {
     let mut lent = small();
