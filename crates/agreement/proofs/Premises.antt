@@ -5,7 +5,7 @@ use mathlib.Core.List.{List, []}
 use Prim.Native.Nat.{ℕ, _*_}
 use lib.Dec.{lit≤}
 use lib.ListN.{replicate}
-use Rattle.string.specs.Sound as Table
+use Rattle.str_table.specs.Sound as Table
 use Rattle.vm.specs.Core.{_⊑_}
 use Rattle.program.specs.Image.{Image, Tables, rising, tablesOk, imageOk, endsInHalt, below, wordTests, counts, imageTests, failing}
 use Rattle.vm.specs.Machine.{Lent, sizes, framesOk, heapOk, slotsOk, begun, begin, starts, start}

@@ -18,9 +18,9 @@ use Rattle.value.specs.Double.{bits}
 use Rattle.value.specs.Cast.{castToInt, castToDouble}
 use Rattle.string.specs.Hash.{mixed, folded, chunks, hashOf, smallHashOf}
 use Rattle.string.specs.Payload.{payloadOf, reaches, headed, holds}
-use Rattle.string.specs.Table.{home, probe, lookup, never, filled, placed}
-use Rattle.string.specs.Grow.{storedHash, movedOne, moved, roomOf, widened, withRoom, spareAfter}
-use Rattle.string.specs.Sound as Table
+use Rattle.str_table.specs.Table.{home, probe, lookup, never, filled, placed}
+use Rattle.str_table.specs.Grow.{storedHash, movedOne, moved, roomOf, widened, withRoom, spareAfter}
+use Rattle.str_table.specs.Sound as Table
 use Rattle.gc.specs.Metadata.{headerOf}
 use Rattle.gc.specs.Pages as Pages
 use Rattle.gc.specs.Lent.{pagesOf, numbersOf}

@@ -8,7 +8,7 @@ use lib.ListN.{length, take, drop, getD, length-append}
 use lib.Seq.{take-suc, take-at, getD-append-add, length-take-le}
 use Rattle.memory.specs.Lists.{over, write}
 use Rattle.memory.proofs.Over.{length-over, over-take, over-is, tail-returned, write-append}
-use Rattle.string.specs.declared.table.StrTable.{StrTable}
+use Rattle.str_table.specs.declared.StrTable.{StrTable}
 use Rattle.gc.specs.declared.Gc.{Gc}
 use Rattle.vm.specs.declared.State.{State}
 use Rattle.vm.specs.Told.{holding}

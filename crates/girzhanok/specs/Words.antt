@@ -2,7 +2,7 @@
 use Prim.Native.Nat.{ℕ}
 use mathlib.Core.List.{List, [], _∷_, _++_}
 use lib.ListN.{take, getD}
-use Rattle.string.specs.declared.table.StrTable.{StrTable}
+use Rattle.str_table.specs.declared.StrTable.{StrTable}
 use Rattle.gc.specs.declared.Gc.{Gc}
 use Rattle.vm.specs.declared.State.{State}
 

@@ -6,7 +6,7 @@ ghost use Rattle.memory.specs.Lists.{over};
 ghost use Rattle.vm.specs.Told.{holding};
 ghost use Rattle.girzhanok.specs.Words.{stateWords, packed, unpacked};
 use gc::Gc;
-use string::table::StrTable;
+use str_table::StrTable;
 use vm::State;
 
 pub const STATE_WORDS: usize = 40;

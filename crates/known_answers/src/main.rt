@@ -6,8 +6,8 @@ use gc::AllocType;
 use gc::Gc;
 use gc::Metadata;
 use libc::STDOUT_FILENO;
-use string::table::Probe;
-use string::table::StrTable;
+use str_table::Probe;
+use str_table::StrTable;
 use value::Value;
 use value::int::Divided;
 
@@ -114,7 +114,7 @@ fn found(heap: &mut [u8], slots: &mut [u64], spare: &mut [u64], s: &[u8]) -> u64
     string::payload::write_payload(&mut heap[48..], b"a", hash);
     let t = StrTable { active: 0, len: 0 };
     t.insert(base, heap, hash, 65584, slots, spare);
-    match string::table::get(base, heap, slots, s, string::fxhash::hash(s)) {
+    match str_table::get(base, heap, slots, s, string::fxhash::hash(s)) {
         Probe::Found(v) => v,
         Probe::Vacant(_) | Probe::Full => 0,
     }

@@ -17,15 +17,15 @@ use Rattle.memory.proofs.Over.{over-is, over-take, take-over, length-over}
 use Rattle.memory.proofs.Bytes.{length-bytesOf}
 use Rattle.anomaly.specs.declared.Refusal.{Refusal}
 use Rattle.anomaly.specs.Table.{numberOfRefusal}
-use Rattle.string.specs.declared.table.StrTable.{StrTable}
-use Rattle.string.specs.declared.table.Probe.{Probe}
-use Rattle.string.proofs.table.Probe as probes
+use Rattle.str_table.specs.declared.StrTable.{StrTable}
+use Rattle.str_table.specs.declared.Probe.{Probe}
+use Rattle.str_table.proofs.Probe as probes
 use Rattle.string.specs.Hash.{hashOf, smallHashOf}
 use Rattle.string.specs.Payload.{holds, smallName}
-use Rattle.string.specs.Table.{lookup, placed}
-use Rattle.string.specs.Grow.{roomOf, withRoom, spareAfter, Inserted, inserted, insertOf}
-use Rattle.string.proofs.Probes.{length-placed}
-use Rattle.string.proofs.Moves.{room-holds, length-withRoom}
+use Rattle.str_table.specs.Table.{lookup, placed}
+use Rattle.str_table.specs.Grow.{roomOf, withRoom, spareAfter, Inserted, inserted, insertOf}
+use Rattle.str_table.proofs.Probes.{length-placed}
+use Rattle.str_table.proofs.Moves.{room-holds, length-withRoom}
 use Rattle.string.proofs.Small.{small-hash-is}
 use Rattle.gc.specs.declared.Gc.{Gc}
 use Rattle.gc.specs.declared.Alloc.{Alloc}

@@ -10,9 +10,9 @@ use lib.Seq.{length-take-le}
 use lib.Dec.{eqb}
 use borrow.Author.Tests.{leb-true, eqb-true, not-true, not-false}
 use Rattle.memory.proofs.Tests.{both}
-use Rattle.string.specs.declared.table.StrTable.{StrTable}
-use Rattle.string.specs.Sound as Table
-use Rattle.string.proofs.Counting.{active-within}
+use Rattle.str_table.specs.declared.StrTable.{StrTable}
+use Rattle.str_table.specs.Sound as Table
+use Rattle.str_table.proofs.Counting.{active-within}
 use Rattle.gc.specs.declared.Gc.{Gc}
 use Rattle.gc.specs.Pages.{pushed}
 use Rattle.gc.specs.Lent as Heap

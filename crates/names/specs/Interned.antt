@@ -6,7 +6,7 @@ use mathlib.Core.List.{List}
 use lib.ListN.{length}
 use Rattle.memory.specs.Lists.{write}
 use Rattle.anomaly.specs.Table.{numberOfRefusal}
-use Rattle.string.specs.declared.table.StrTable.{StrTable}
+use Rattle.str_table.specs.declared.StrTable.{StrTable}
 use Rattle.string.specs.Payload.{payloadOf, payloadSize}
 use Rattle.gc.specs.declared.Gc.{Gc}
 use Rattle.gc.specs.Pages.{Pages, Block, allocated}

@@ -13,11 +13,10 @@ use gc::Alloc;
 use gc::AllocType;
 use gc::Gc;
 use gc::Metadata;
+use str_table::Probe;
+use str_table::StrTable;
 use string::fxhash;
 use string::payload;
-use string::table;
-use string::table::Probe;
-use string::table::StrTable;
 use vm::Reply;
 use vm::lent;
 
@@ -167,7 +166,7 @@ pub fn intern(
             let hash = fxhash::hash(s);
             let active = strings.active;
             let pushed = gc.pushed;
-            let found = table::get(gc.base, &heap[..pushed], &slots[..active], s, hash);
+            let found = str_table::get(gc.base, &heap[..pushed], &slots[..active], s, hash);
             known(found, gc, strings, s, hash, heap, slots, spare)
         }
     }
@@ -197,7 +196,7 @@ pub fn intern_small(
             let hash = fxhash::small_hash(len as u64, word);
             let active = strings.active;
             let pushed = gc.pushed;
-            let found = table::get_small(
+            let found = str_table::get_small(
                 gc.base,
                 &heap[..pushed],
                 &slots[..active],

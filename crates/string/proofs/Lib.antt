@@ -1,8 +1,4 @@
--- The laws of hashes, of strings in the heap, and of the table.
+-- The laws of hashes, and of strings in the heap.
 pub mod Chunks
 pub mod Small
 pub mod Strings
-pub mod Probes
-pub mod Moves
-pub mod Counting
-pub mod NeverFull

@@ -1,7 +1,4 @@
 -- The definitions that the contracts of `string` cite.
 pub mod Hash
 pub mod Payload
-pub mod Table
-pub mod Grow
-pub mod Sound
 pub mod Cases

@@ -1,7 +1,6 @@
-// Strings in the heap, and the table in which names are interned.
+// Strings: their hash, and their payload in the heap.
 pub mod fxhash;
 pub mod payload;
-pub mod table;
 
 // A payload's alignment: keys of a table over strings lie so far apart.
 pub const ALIGN: u64 = 4;

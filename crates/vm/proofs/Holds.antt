@@ -7,7 +7,7 @@ use mathlib.Core.List.{List, [], _∷_}
 use lib.ListN.{length}
 use Rattle.memory.specs.Lists.{over}
 use Rattle.memory.proofs.Over.{length-over, take-over}
-use Rattle.string.specs.Grow.{spareAfter}
+use Rattle.str_table.specs.Grow.{spareAfter}
 use Rattle.gc.specs.Pages.{Pages}
 use Rattle.gc.proofs.Blocks.{pages-of-over}
 use Rattle.vm.specs.Core.{Core, Sizes, used, short, _⊑_, setRegs, setPc, setFrames, setMemory, setPages}

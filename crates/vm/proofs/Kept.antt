@@ -6,8 +6,8 @@ use mathlib.Core.Bool.{Bool, true, false}
 use mathlib.Core.Option.{Option, none, some}
 use mathlib.Core.List.{List}
 use Rattle.gc.specs.Pages.{Pages, block, pushed, fitted, allocated, holds}
-use Rattle.string.specs.declared.table.Probe.{Probe}
-use Rattle.string.specs.declared.table.Probe.the-variants.{Found, Vacant, Full}
+use Rattle.str_table.specs.declared.Probe.{Probe}
+use Rattle.str_table.specs.declared.Probe.the-variants.{Found, Vacant, Full}
 use Rattle.program.specs.declared.Effect.{Effect}
 use Rattle.vm.specs.Core.{Core, Memory, Sizes, used, short, setPages, setBytes}
 use Rattle.program.specs.Image.{Image}

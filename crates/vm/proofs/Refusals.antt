@@ -8,7 +8,7 @@ use native.Mathlib.Omega.{arith}
 use lib.ListN.{length, take}
 use lib.Dec.{leb, ltb, eqb, lit≤}
 use borrow.Author.Tests.{le-leb, ne-eqb}
-use Rattle.string.specs.Sound as Table
+use Rattle.str_table.specs.Sound as Table
 use Rattle.gc.specs.declared.Gc.{Gc}
 use Rattle.gc.specs.Lent.{numbersOf}
 use Rattle.gc.specs.Lent as Heap

@@ -7,13 +7,13 @@ use lib.ListN.{length, take, drop, set, replicate}
 use lib.Dec.{leb, ltb, eqb}
 use Rattle.memory.specs.Lists.{over}
 use Rattle.string.specs.Payload.{smallName}
-use Rattle.string.specs.Grow.{spareAfter}
-use Rattle.string.specs.Sound as Table
+use Rattle.str_table.specs.Grow.{spareAfter}
+use Rattle.str_table.specs.Sound as Table
 use Rattle.gc.specs.Pages.{Pages}
 use Rattle.gc.specs.Lent.{pageSize, pagesOf, numbersOf}
 use Rattle.gc.specs.Lent as Heap
 use Rattle.op.specs.Layout.{isAlignment}
-use Rattle.string.specs.declared.table.StrTable.{StrTable}
+use Rattle.str_table.specs.declared.StrTable.{StrTable}
 use Rattle.gc.specs.declared.Gc.{Gc}
 use Rattle.vm.specs.declared.State.{State}
 use Rattle.vm.specs.Core.{Core, Memory, Sizes, used, short, spent, setFrames, setMemory}

@@ -5,12 +5,12 @@ use mathlib.Core.List.{List, _++_}
 use lib.ListN.{length}
 use Rattle.memory.specs.Bytes.{bytesOf}
 use Rattle.memory.specs.Lists.{write}
-use Rattle.string.specs.declared.table.Probe.{Probe}
-use Rattle.string.specs.declared.table.Probe.the-variants.{Found, Vacant, Full}
+use Rattle.str_table.specs.declared.Probe.{Probe}
+use Rattle.str_table.specs.declared.Probe.the-variants.{Found, Vacant, Full}
 use Rattle.string.specs.Hash.{hashOf}
 use Rattle.string.specs.Payload.{payloadOf, payloadSize, holds}
-use Rattle.string.specs.Table.{lookup, placed}
-use Rattle.string.specs.Grow.{roomOf, withRoom}
+use Rattle.str_table.specs.Table.{lookup, placed}
+use Rattle.str_table.specs.Grow.{roomOf, withRoom}
 use Rattle.gc.specs.Pages.{Pages, Block, allocated}
 use Rattle.gc.specs.Lent.{pageSize}
 use Rattle.vm.specs.Core.{Memory, setPages, setBytes}

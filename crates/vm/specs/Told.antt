@@ -5,7 +5,7 @@ use mathlib.Core.List.{List, []}
 use Rattle.anomaly.specs.declared.Refusal.{Refusal}
 use Rattle.anomaly.specs.declared.End.{End}
 use Rattle.anomaly.specs.Table.{numberOfAnomaly, pcOfAnomaly, stepsOfAnomaly, numberOfRefusal}
-use Rattle.string.specs.declared.table.StrTable.{StrTable}
+use Rattle.str_table.specs.declared.StrTable.{StrTable}
 use Rattle.gc.specs.declared.Alloc.{Alloc}
 use Rattle.gc.specs.declared.Gc.{Gc}
 use Rattle.gc.specs.Pages.{Block}

@@ -28,7 +28,7 @@ pub fn heap_ok(base: u64, heap: usize) -> bool
 pub fn slots_ok(slots: usize, spare: usize) -> bool
     ensures { λ r. ⌜ r ≡ slotsOk slots spare ⌝ }
 {
-    string::table::slot_count(slots) & (spare == slots)
+    str_table::slot_count(slots) & (spare == slots)
 }
 
 // Of 9: the depth is within the frames lent, and for code of so many words each frame in use but frame 0 returns below the last.

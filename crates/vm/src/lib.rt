@@ -14,7 +14,7 @@ use gc::AllocType;
 use gc::Gc;
 use gc::Metadata;
 use op::REGISTER_COUNT;
-use string::table::StrTable;
+use str_table::StrTable;
 
 // What a machine keeps. Frames, heap and slots are lent to each call.
 pub struct State {

@@ -17,7 +17,7 @@ use gc::Alloc;
 use gc::Gc;
 use op::Checked;
 use program::loader;
-use string::table::StrTable;
+use str_table::StrTable;
 
 // A state that has nothing in use.
 fn blank(base: u64) -> State

@@ -1,6 +1,6 @@
 -- `known_answers::found` meets its contract. Assumes nothing.
 use native.Mathlib.Omega.{arith}
-use Rattle.string.specs.Grow.{roomOf}
+use Rattle.str_table.specs.Grow.{roomOf}
 use borrow.Author.Needs.{needs}
 use Rattle.known_answers.proofs.found.Statement.{statement}
 use Rattle.known_answers.proofs.found.Tie as tie

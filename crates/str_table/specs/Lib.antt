@@ -1,0 +1,4 @@
+-- The definitions that the contracts of `str_table` cite.
+pub mod Table
+pub mod Grow
+pub mod Sound
