@@ -31,7 +31,7 @@ use Rattle.op.specs.Reach.{checkOf}
 use Rattle.vm.specs.Core.{used, needs, short, setRegs, setPc, setFrames, setMemory, setPages, setBytes}
 use Rattle.program.specs.Image.{Image, Tables, startOf, entriesOf, counts, rising, tablesOk, imageOk, endsInHalt, below, wordTest}
 use Rattle.program.specs.Image.{wordTests, imageTests, failing}
-use Rattle.program.specs.Effect.{divided, jumpIf, within, slot, switched, effectOf, wordEffect}
+use Rattle.effects.specs.Effect.{divided, jumpIf, within, slot, switched, effectOf, wordEffect}
 use Rattle.vm.specs.Run.{provided, forward, addressed, loaded, stored8, returned, blockTo, apply, fetched, asked, unless, limited, step, after, go}
 use Rattle.vm.specs.Run.{root, entered, stored}
 use Rattle.vm.specs.Names as Names

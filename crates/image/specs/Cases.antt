@@ -19,7 +19,7 @@ use Rattle.op.specs.Decode as Op
 use Rattle.op.specs.Decode.{decodedBy, decodeOf}
 use Rattle.op.specs.Reach.{checkOf}
 use Rattle.program.specs.Image.{startOf, entriesOf, counts, rising, tablesOk, imageOk, endsInHalt, below, wordTest, wordTests, imageTests, failing}
-use Rattle.program.specs.Effect.{within, effectOf, wordEffect}
+use Rattle.effects.specs.Effect.{within, effectOf, wordEffect}
 use Rattle.vm.specs.Core.{used, needs, short, setRegs, setPc, setFrames, setMemory, setPages, setBytes}
 use Rattle.vm.specs.Run.{provided, forward, addressed, loaded, stored8, returned, blockTo, apply, fetched, asked, unless, limited, step, after, go}
 use Rattle.vm.specs.Run.{root, entered, stored}

@@ -15,7 +15,7 @@ use Rattle.op.specs.declared.Checked.{Checked}
 use Rattle.op.specs.declared.Counts.{Counts}
 use Rattle.program.specs.Image.{counts, rising, tablesFit, tablesOk, imageOk, wordTests, imageTests, failing, verdict}
 use Rattle.program.specs.Words.{between, fits, cut, imageIn, Ordered}
-use Rattle.program.proofs.Asks.{rising-to, rising-at, rising-on}
+use Rattle.program.proofs.Tables.{rising-to, rising-at, rising-on}
 use Rattle.program.proofs.Images.{refused-10}
 
 pub length-between : (a e : ℕ) (ws : List ℕ) → e ≤ length ws → length (between a e ws) ≡ e - a

@@ -1,5 +1,5 @@
--- The laws of an image's tests, and of what an instruction asks for.
+-- The laws of an image's tests, and of its words.
 pub mod Tests
+pub mod Tables
 pub mod Images
-pub mod Asks
 pub mod Layouts

@@ -1,5 +1,4 @@
-// What a machine is lent to run: an image, what is refused of it, and what its instructions ask for.
-pub mod effects;
+// What a machine is lent to run: an image, and what is refused of it.
 pub mod loader;
 
 // The ends of an image's sections, before the first of them: code, globals, of the `Switch` tables firsts, ends and entries, the same of `Lookup`,
@@ -17,21 +16,3 @@ pub const MAX_ENTRIES: usize = 4096;
 
 // The words of an image whose every section is as long as it may be: a longer one is refused by its length alone.
 pub const LONGEST_IMAGE: usize = HEADER + MAX_CODE + MAX_GLOBALS + 2 * MAX_ENTRIES + 5 * MAX_TABLES;
-
-// What an instruction asks for, once its registers are read.
-pub enum Effect {
-    // register, value
-    Set(usize, u64),
-    Skip,
-    Goto(usize),
-    Call(usize),
-    Ret,
-    // register, base, offset
-    Load(usize, u64, u64),
-    // base, offset, value
-    Store(u64, u64, u64),
-    // register, kind, size
-    Alloc(usize, u64, u64),
-    Stop(u64),
-    Halt,
-}

@@ -25,7 +25,7 @@ use Rattle.vm.specs.Machine.{ran, idle, runs, runLeaves, runCall, act, framesOk
 use Rattle.vm.specs.Told.{machineOf}
 use Rattle.vm.specs.Loaded.{Loaded}
 use Rattle.run.specs.Loop.{positionOf, Fitting, Going, Finished, finishes, finished, storedPc}
-use Rattle.program.proofs.Asks.{difference}
+use Rattle.effects.proofs.Asks.{difference}
 use Rattle.vm.proofs.Fits.{view-fits}
 use Rattle.program.proofs.Tests.{failing-here, failing-later}
 use Rattle.vm.proofs.Buffers.{frames-room, heap-low}

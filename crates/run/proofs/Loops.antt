@@ -14,9 +14,9 @@ use Rattle.anomaly.specs.Table.{isAnomaly}
 use Rattle.gc.specs.Lent.{pagesOf, numbersOf, InHeap}
 use Rattle.gc.proofs.Blocks.{pushed-is, pages-of-over}
 use Rattle.op.specs.Decode.{decodeOf}
-use Rattle.program.specs.declared.Effect.{Effect}
+use Rattle.effects.specs.declared.Effect.{Effect}
 use Rattle.program.specs.Image.{Image}
-use Rattle.program.specs.Effect.{wordEffect}
+use Rattle.effects.specs.Effect.{wordEffect}
 use Rattle.run.specs.declared.instruction.Position.{Position}
 use mathlib.Core.Option.{none}
 use Rattle.vm.specs.declared.State.{State}

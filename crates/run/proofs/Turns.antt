@@ -23,7 +23,7 @@ use Rattle.gc.specs.declared.Alloc.the-variants as alloc
 use Rattle.gc.specs.Pages.{Pages, Block, allocated}
 use Rattle.gc.specs.Lent.{pageSize, pagesOf, numbersOf, fits, outcome, allocOf, InHeap}
 use Rattle.gc.proofs.Blocks.{pushed-is}
-use Rattle.program.specs.declared.Effect.the-variants as effect
+use Rattle.effects.specs.declared.Effect.the-variants as effect
 use Rattle.program.specs.Image.{test, failing}
 use Rattle.run.specs.declared.instruction.Position.{Position}
 use Rattle.run.specs.declared.instruction.Place.{Place}

@@ -7,7 +7,7 @@ use lib.Dec.{eqb}
 use Rattle.string.specs.Payload.{reaches}
 use Rattle.gc.specs.declared.Gc.{Gc}
 use Rattle.gc.specs.Lent.{InHeap}
-use Rattle.program.specs.declared.Effect.{Effect}
+use Rattle.effects.specs.declared.Effect.{Effect}
 use Rattle.program.specs.Image.{Image}
 use Rattle.vm.specs.declared.State.{State}
 use Rattle.run.specs.declared.instruction.Position.{Position}

@@ -4,18 +4,18 @@ ghost use mathlib.Core.List.{List};
 ghost use Prim.Native.Nat.{ℕ, _+_, _^_, _<_, _≤_};
 ghost use lib.ListN.{length};
 ghost use Rattle.gc.specs.Lent.{InHeap};
-ghost use Rattle.program.specs.declared.Effect.{Effect};
+ghost use Rattle.effects.specs.declared.Effect.{Effect};
 ghost use Rattle.vm.specs.Loaded.{Writable};
 ghost use Rattle.vm.specs.declared.State.{State};
 ghost use Rattle.vm.specs.Machine.{Lent, lendFrames, lendHeap, lendRun};
 ghost use Rattle.run.specs.Loop.{atPc, machineAt, Fitting, placeIn, turn, turnOf};
 use anomaly::Anomaly;
+use effects::Effect;
 use gc::Alloc;
 use gc::AllocType;
 use gc::Gc;
 use gc::HEAP_END;
 use gc::Metadata;
-use program::Effect;
 
 // What changes from instruction to instruction, beside registers, frames and heap.
 pub struct Position {

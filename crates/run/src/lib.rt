@@ -24,7 +24,6 @@ use instruction::Turn;
 use instruction::apply;
 use op::Checked;
 use program::HEADER;
-use program::effects;
 use program::loader;
 use vm::State;
 use vm::lent;

@@ -7,8 +7,8 @@ use mathlib.Core.List.{List}
 use lib.ListN.{length, set}
 use Rattle.gc.specs.Pages.{allocated}
 use Rattle.gc.specs.Lent.{pageSize}
-use Rattle.program.specs.declared.Effect.{Effect}
-use Rattle.program.specs.declared.Effect.the-variants as effect
+use Rattle.effects.specs.declared.Effect.{Effect}
+use Rattle.effects.specs.declared.Effect.the-variants as effect
 use Rattle.program.specs.Image.{Image}
 use Rattle.vm.specs.Core.{Core, Memory, Sizes, used, short, setRegs, setPc, setFrames, setMemory, setPages}
 use Rattle.vm.specs.Run.{Step, next, halted, stop, provided, forward, stored8, returned, blockTo, apply, asked, unless, limited}

@@ -26,11 +26,11 @@ use Rattle.op.specs.Decode.{rows, rowOf, decodedBy, decodeOf}
 use Rattle.op.specs.Reach.{reachOf, checkOf}
 use Rattle.op.specs.Operands.{okOp, Within}
 use Rattle.op.proofs.Sound.{fine}
-use Rattle.program.specs.declared.Effect.{Effect}
-use Rattle.program.specs.declared.Effect.the-variants as effect
+use Rattle.effects.specs.declared.Effect.{Effect}
+use Rattle.effects.specs.declared.Effect.the-variants as effect
 use Rattle.vm.specs.Core.{Core, Sizes, used, needs, short, _⊑_, setRegs, setPc, setFrames, setMemory}
 use Rattle.program.specs.Image.{Image, startOf, entriesOf, counts, below}
-use Rattle.program.specs.Effect.{divided, jumpIf, within, switched, effectOf, wordEffect}
+use Rattle.effects.specs.Effect.{divided, jumpIf, within, switched, effectOf, wordEffect}
 use Rattle.vm.specs.Run.{Step, next, halted, stop, provided, forward, returned, blockTo, apply, fetched, asked, unless, limited, step}
 use Rattle.vm.specs.Loaded.{Checks, Returns, Writable}
 use Rattle.vm.proofs.Fits.{failing-each}

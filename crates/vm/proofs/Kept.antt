@@ -8,7 +8,7 @@ use mathlib.Core.List.{List}
 use Rattle.gc.specs.Pages.{Pages, block, pushed, fitted, allocated, holds}
 use Rattle.str_table.specs.declared.Probe.{Probe}
 use Rattle.str_table.specs.declared.Probe.the-variants.{Found, Vacant, Full}
-use Rattle.program.specs.declared.Effect.{Effect}
+use Rattle.effects.specs.declared.Effect.{Effect}
 use Rattle.vm.specs.Core.{Core, Memory, Sizes, used, short, setPages, setBytes}
 use Rattle.program.specs.Image.{Image}
 use Rattle.vm.specs.Run.{Step, stored8, apply, step, go}

@@ -6,8 +6,8 @@ use mathlib.Core.List.{List, [], _∷_}
 use lib.ListN.{length, getD}
 use Rattle.op.specs.declared.Checked.{Checked}
 use Rattle.op.specs.Reach.{checkOf}
-use Rattle.program.specs.declared.Effect.{Effect}
-use Rattle.program.specs.declared.Effect.the-variants as effect
+use Rattle.effects.specs.declared.Effect.{Effect}
+use Rattle.effects.specs.declared.Effect.the-variants as effect
 use Rattle.program.specs.Image.{Image, counts, below, tablesOk}
 
 -- a return leads into code of n words

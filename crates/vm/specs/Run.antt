@@ -11,11 +11,11 @@ use Rattle.string.specs.Payload.{reaches}
 use Rattle.gc.specs.Pages.{Pages, Block, allocated}
 use Rattle.gc.specs.Lent.{pageSize}
 use Rattle.op.specs.Decode.{decodeOf}
-use Rattle.program.specs.declared.Effect.{Effect}
-use Rattle.program.specs.declared.Effect.the-variants as effect
+use Rattle.effects.specs.declared.Effect.{Effect}
+use Rattle.effects.specs.declared.Effect.the-variants as effect
 use Rattle.vm.specs.Core.{Core, Sizes, used, short, setReg, setPc, setFrames, setMemory, setPages, setBytes}
 use Rattle.program.specs.Image.{Image}
-use Rattle.program.specs.Effect.{unlisted, wordEffect}
+use Rattle.effects.specs.Effect.{unlisted, wordEffect}
 
 -- what an instruction comes to: a further core, a Halt, or an end with the core that it leaves
 pub data Step : Type 0 where

@@ -1,7 +1,7 @@
--- `program::effects::jump_if` meets its contract. Assumes nothing.
-use Rattle.program.specs.Effect.{jumpIf}
-use Rattle.program.proofs.effects.jump_if.Statement.{statement}
-use Rattle.program.proofs.effects.jump_if.Tie as tie
+-- `effects::jump_if` meets its contract. Assumes nothing.
+use Rattle.effects.specs.Effect.{jumpIf}
+use Rattle.effects.proofs.jump_if.Statement.{statement}
+use Rattle.effects.proofs.jump_if.Tie as tie
 
 returns : tie.Need-returns
 unfolding jumpIf

@@ -1,8 +1,8 @@
--- `program::effects::divided` meets its contract. Assumes nothing.
-use Rattle.program.specs.Effect.{divided}
+-- `effects::divided` meets its contract. Assumes nothing.
+use Rattle.effects.specs.Effect.{divided}
 use borrow.Author.Needs.{needs}
-use Rattle.program.proofs.effects.divided.Statement.{statement}
-use Rattle.program.proofs.effects.divided.Tie as tie
+use Rattle.effects.proofs.divided.Statement.{statement}
+use Rattle.effects.proofs.divided.Tie as tie
 
 returns : tie.Need-returns
 unfolding divided

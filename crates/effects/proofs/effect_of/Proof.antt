@@ -1,14 +1,14 @@
--- `program::effects::effect_of` meets its contract: each arm by the instruction's clause, the registers' reads and its callees. Assumes nothing.
+-- `effects::effect_of` meets its contract: each arm by the instruction's clause, the registers' reads and its callees. Assumes nothing.
 use mathlib.Core.Path.{_≡_}
 use native.Mathlib.Omega.{arith}
 use Rattle.op.specs.declared.Op.{Op}
 use Rattle.op.specs.Operands.{okOp}
 use Rattle.op.proofs.Arms.{nothing}
-use Rattle.program.specs.Effect.{effectOf}
-use Rattle.program.proofs.Asks.{difference}
+use Rattle.effects.specs.Effect.{effectOf}
+use Rattle.effects.proofs.Asks.{difference}
 use borrow.Author.Needs.{needs}
-use Rattle.program.proofs.effects.effect_of.Statement.{statement}
-use Rattle.program.proofs.effects.effect_of.Tie as tie
+use Rattle.effects.proofs.effect_of.Statement.{statement}
+use Rattle.effects.proofs.effect_of.Tie as tie
 
 -- the place before the match
 abbrev start-of : tie.After-shared-slice-known → tie.Start

@@ -1,9 +1,10 @@
--- `program::effects::find` meets its contract. Assumes nothing.
+-- `effects::tables::find` meets its contract. Assumes nothing.
 use native.Mathlib.Omega.{arith}
-use Rattle.program.proofs.Asks.{bounds, entry-found, entry-missing}
+use Rattle.program.proofs.Tables.{bounds}
+use Rattle.effects.proofs.Asks.{entry-found, entry-missing}
 use borrow.Author.Needs.{needs}
-use Rattle.program.proofs.effects.find.Statement.{statement}
-use Rattle.program.proofs.effects.find.Tie as tie
+use Rattle.effects.proofs.tables.find.Statement.{statement}
+use Rattle.effects.proofs.tables.find.Tie as tie
 
 starts-at-requires : tie.Need-starts-at-requires
 starts-at-requires c κs =

@@ -1,13 +1,13 @@
--- `program::effects::lookup` meets its contract. Assumes nothing.
+-- `effects::tables::lookup` meets its contract. Assumes nothing.
 use mathlib.Core.Path.{sym, _∙_}
 use lib.ListN.{getD}
 use Rattle.program.specs.Image.{entriesOf}
 use Rattle.program.specs.Words.{cut}
-use Rattle.program.specs.Effect.{slot}
-use Rattle.program.proofs.Asks.{inside, outside, lookup-found, lookup-missing}
+use Rattle.effects.specs.Effect.{slot}
+use Rattle.effects.proofs.Asks.{inside, outside, lookup-found, lookup-missing}
 use borrow.Author.Needs.{needs}
-use Rattle.program.proofs.effects.lookup.Statement.{statement}
-use Rattle.program.proofs.effects.lookup.Tie as tie
+use Rattle.effects.proofs.tables.lookup.Statement.{statement}
+use Rattle.effects.proofs.tables.lookup.Tie as tie
 
 abbrev start-of : tie.After-find → tie.Start
 start-of c = c .before .before .before .before .before .before .before .before .before .before .before .before

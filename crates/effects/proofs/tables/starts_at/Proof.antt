@@ -1,8 +1,8 @@
--- `program::effects::starts_at` meets its contract. Assumes nothing.
-use Rattle.program.proofs.Asks.{first-start, later-start}
+-- `effects::tables::starts_at` meets its contract. Assumes nothing.
+use Rattle.program.proofs.Tables.{first-start, later-start}
 use borrow.Author.Needs.{needs}
-use Rattle.program.proofs.effects.starts_at.Statement.{statement}
-use Rattle.program.proofs.effects.starts_at.Tie as tie
+use Rattle.effects.proofs.tables.starts_at.Statement.{statement}
+use Rattle.effects.proofs.tables.starts_at.Tie as tie
 
 returns : tie.Need-returns
 returns c = first-start _ _ (c .if1 .taken)

@@ -1,8 +1,8 @@
--- `program::effects::load_global` meets its contract. Assumes nothing.
-use Rattle.program.proofs.Asks.{inside, outside}
+-- `effects::tables::load_global` meets its contract. Assumes nothing.
+use Rattle.effects.proofs.Asks.{inside, outside}
 use borrow.Author.Needs.{needs}
-use Rattle.program.proofs.effects.load_global.Statement.{statement}
-use Rattle.program.proofs.effects.load_global.Tie as tie
+use Rattle.effects.proofs.tables.load_global.Statement.{statement}
+use Rattle.effects.proofs.tables.load_global.Tie as tie
 
 returns : tie.Need-returns
 returns c =

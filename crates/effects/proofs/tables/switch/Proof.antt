@@ -1,9 +1,9 @@
--- `program::effects::switch` meets its contract. Assumes nothing.
+-- `effects::tables::switch` meets its contract. Assumes nothing.
 use mathlib.Core.Path.{sym, _∙_}
-use Rattle.program.proofs.Asks.{inside, outside, switch-found, switch-missing}
+use Rattle.effects.proofs.Asks.{inside, outside, switch-found, switch-missing}
 use borrow.Author.Needs.{needs}
-use Rattle.program.proofs.effects.switch.Statement.{statement}
-use Rattle.program.proofs.effects.switch.Tie as tie
+use Rattle.effects.proofs.tables.switch.Statement.{statement}
+use Rattle.effects.proofs.tables.switch.Tie as tie
 
 returns : tie.Need-returns
 returns c = outside _ _ _ (c .if1 .taken)

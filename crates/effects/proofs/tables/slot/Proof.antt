@@ -1,9 +1,9 @@
--- `program::effects::slot` meets its contract. Assumes nothing.
+-- `effects::tables::slot` meets its contract. Assumes nothing.
 use native.Mathlib.Omega.{arith}
-use Rattle.program.proofs.Asks.{difference, slot-str, slot-int}
+use Rattle.effects.proofs.Asks.{difference, slot-str, slot-int}
 use borrow.Author.Needs.{needs}
-use Rattle.program.proofs.effects.slot.Statement.{statement}
-use Rattle.program.proofs.effects.slot.Tie as tie
+use Rattle.effects.proofs.tables.slot.Statement.{statement}
+use Rattle.effects.proofs.tables.slot.Tie as tie
 
 returns : tie.Need-returns
 returns c =

@@ -1,10 +1,10 @@
--- `program::effects::word_effect` meets its contract. Assumes nothing.
+-- `effects::word_effect` meets its contract. Assumes nothing.
 use mathlib.Core.Path.{refl, sym, _∙_}
 use Rattle.op.proofs.Sound.{ok-op}
-use Rattle.program.specs.Effect.{wordEffect}
+use Rattle.effects.specs.Effect.{wordEffect}
 use borrow.Author.Needs.{needs}
-use Rattle.program.proofs.effects.word_effect.Statement.{statement}
-use Rattle.program.proofs.effects.word_effect.Tie as tie
+use Rattle.effects.proofs.word_effect.Statement.{statement}
+use Rattle.effects.proofs.word_effect.Tie as tie
 
 returns : tie.Need-returns
 unfolding wordEffect

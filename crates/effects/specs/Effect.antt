@@ -18,9 +18,9 @@ use Rattle.op.specs.declared.Op.the-variants.{IEqI, IGtI, ILtI, DAdd, DSub, DMu
 use Rattle.op.specs.declared.Op.the-variants.{JmpF, JmpEqI, JmpNeI, JmpSEq, JmpSNe, Switch, Lookup, Tail, Call, CastToInt, CastToDouble}
 use Rattle.op.specs.declared.Op.the-variants.{CastToBool, Alloc, Store, Load, AddrOf, Ret, Assert, Halt, Nop}
 use Rattle.op.specs.declared.Decoded.{Decoded}
-use Rattle.program.specs.declared.Effect.{Effect}
-use Rattle.program.specs.declared.Effect.the-variants as effect
+use Rattle.effects.specs.declared.Effect.{Effect}
+use Rattle.effects.specs.declared.Effect.the-variants as effect
 use Rattle.program.specs.Image.{Image, entriesOf}
 
 -- the end of a read outside the code, the globals or the tables. No table of ends has it: no run that is not refused comes to it
 abbrev pub unlisted : ℕ

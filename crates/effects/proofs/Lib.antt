@@ -1,0 +1,2 @@
+-- The laws of what an instruction asks for.
+pub mod Asks

@@ -1,0 +1,2 @@
+-- The meaning of the instructions.
+pub mod Effect
