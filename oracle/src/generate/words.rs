@@ -12,6 +12,10 @@ pub fn damaged(rng: &mut Rng, image: &[u64]) -> Vec<u64> {
     for _ in 0..*rng.one_of(&[1, 1, 1, 1, 2, 3]) {
         damage(rng, &mut words);
     }
+    // so that what is wrong lies behind the ends
+    if rng.one_in(4) {
+        fitting(rng, &mut words);
+    }
     // two changes may undo each other
     if words == image {
         words.push(edge(rng, image.len() as u64));
@@ -38,12 +42,14 @@ fn damage(rng: &mut Rng, words: &mut Vec<u64>) {
         words.push(rng.below(40));
         return;
     }
-    let at = rng.below(len) as usize;
+    // the ends are damaged below
+    let first = if len > ENDS as u64 && !rng.one_in(4) { ENDS as u64 } else { 0 };
+    let at = rng.from_to(first, len - 1) as usize;
     match rng.below(24) {
         0..8 => words[at] ^= 1 << rng.below(64),
         8..10 => words[at] = edge(rng, len),
-        10..12 => words[at] = words[rng.below(len) as usize],
-        12..14 => words.swap(at, rng.below(len) as usize),
+        10..12 => words[at] = words[rng.from_to(first, len - 1) as usize],
+        12..14 => words.swap(at, rng.from_to(first, len - 1) as usize),
         14 => words.truncate(at),
         15 => drop(words.drain(at..at + some(rng, len - at as u64))),
         16 => {
@@ -104,7 +110,9 @@ fn header(rng: &mut Rng, words: &mut [u64]) {
 fn fitting(rng: &mut Rng, words: &mut [u64]) {
     let Some(mut left) = words.len().checked_sub(ENDS) else { return };
     let up_to = |rng: &mut Rng, n: usize| rng.from_to(0, n as u64) as usize;
-    let code = if rng.one_in(2) { (words[0] as usize).saturating_sub(ENDS).min(left) } else { up_to(rng, left) };
+    // the code mostly ends behind a word that could be a Halt
+    let ends: Vec<usize> = (1..=left).filter(|n| words[ENDS + n - 1] % 256 == 59).collect();
+    let code = if ends.is_empty() || rng.one_in(6) { up_to(rng, left) } else { *rng.one_of(&ends) };
     left -= code;
     let switches = up_to(rng, (left / 2).min(3));
     left -= 2 * switches;
