@@ -17,14 +17,15 @@ use Rattle.gc.specs.Lent as Heap
 use Rattle.gc.proofs.Soundness as Soundness
 use Rattle.program.specs.Image.{Image, tablesOk, imageOk, imageTests, failing}
 use Rattle.vm.specs.declared.State.{State}
-use Rattle.run.specs.declared.instruction.Position.{Position}
+use Rattle.instruction.specs.declared.Position.{Position}
 use Rattle.vm.specs.Core.{Core, setRegs, setPc, setFrames}
 use Rattle.vm.specs.Run.{Ran, go, root, entered, stored}
 use Rattle.vm.specs.Machine.{Lent, Machine, lendFrames, sizes, memoryOf, view, withPages, traced, withFrames, withRegs, laid, run, Called, ended, refused}
 use Rattle.vm.specs.Machine.{ran, idle, runs, runLeaves, runCall, act, framesOk, heapOk, framesBelong, pagesBelong, testsBy, tests, tried, perform}
 use Rattle.vm.specs.Told.{machineOf}
 use Rattle.vm.specs.Loaded.{Loaded}
-use Rattle.run.specs.Loop.{positionOf, Fitting, Going, Finished, finishes, finished, storedPc}
+use Rattle.instruction.specs.Turn.{positionOf, Fitting}
+use Rattle.run.specs.Loop.{Going, Finished, finishes, finished, storedPc}
 use Rattle.effects.proofs.Asks.{difference}
 use Rattle.vm.proofs.Fits.{view-fits}
 use Rattle.program.proofs.Tests.{failing-here, failing-later}
@@ -33,7 +34,7 @@ use Rattle.vm.proofs.Replies.{over-first}
 use Rattle.vm.proofs.Runs.{runs-go, runs-past}
 use Rattle.vm.proofs.Inside.{Inside}
 use Rattle.vm.proofs.Ends.{Listed, all-passed, code-size, checks, from-inside, go-listed}
-use Rattle.run.proofs.Turns.{laid-same}
+use Rattle.instruction.proofs.Turns.{laid-same}
 
 take-first : (d : ℕ) (xs : List ℕ) (v : ℕ) → take d (set xs 0 v) ≡ set (take d xs) 0 v
 take-first zero xs v = refl

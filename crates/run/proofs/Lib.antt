@@ -1,4 +1,3 @@
--- One instruction, the loop, and the way from the call to the loop and back.
-pub mod Turns
+-- The loop, and the way from the call to the loop and back.
 pub mod Loops
 pub mod Entering

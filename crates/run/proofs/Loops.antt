@@ -17,20 +17,21 @@ use Rattle.op.specs.Decode.{decodeOf}
 use Rattle.effects.specs.declared.Effect.{Effect}
 use Rattle.program.specs.Image.{Image}
 use Rattle.effects.specs.Effect.{wordEffect}
-use Rattle.run.specs.declared.instruction.Position.{Position}
+use Rattle.instruction.specs.declared.Position.{Position}
 use mathlib.Core.Option.{none}
 use Rattle.vm.specs.declared.State.{State}
 use Rattle.vm.specs.Core.{Core, used, short, _⊑_, setRegs, setPc}
 use Rattle.vm.specs.Run.{Step, next, halted, stop, asked, fetched, step, Ran, after, go}
 use Rattle.vm.specs.Machine.{Lent, Machine, sizes, unlent, memoryOf, view, withPages, traced, withFrames, withRegs, laid, blank}
 use Rattle.vm.specs.Loaded.{Loaded, Writable}
-use Rattle.run.specs.Loop.{positionOf, machineAt, Going, goes, halts, stops, Turned, turned, turn, Finished, finishes, finished}
+use Rattle.instruction.specs.Turn.{positionOf, machineAt, goes, halts, stops, Turned, turned, turn}
+use Rattle.run.specs.Loop.{Going, Finished, finishes, finished}
 use Rattle.vm.proofs.Fits.{fits-of, view-within, view-fits}
 use Rattle.vm.proofs.Upward.{go-next, go-halted, go-stop}
 use Rattle.vm.proofs.Kept.{Kept, GoodStep, step-good}
 use Rattle.vm.proofs.Grows.{Ends, GrowsStep, step-grows, go-grows}
 use Rattle.vm.proofs.Inside.{Inside, StepOk, step-ok, writable, word-ok}
-use Rattle.run.proofs.Turns.{laid-same}
+use Rattle.instruction.proofs.Turns.{laid-same}
 
 -- an end that is neither 0 nor 5
 pub anomaly-left : (e : ℕ) → (Unit {0} × (e ≡ 0 → ⊥)) × (e ≡ 5 → ⊥) → ((eqb e 0 || eqb e 5) || isAnomaly e) ≡ true → isAnomaly e ≡ true

@@ -11,10 +11,8 @@ ghost use Rattle.program.specs.Words.{cut, imageIn, Ordered};
 ghost use Rattle.vm.specs.Machine.{Lent, lendRun, run, tests, runCall, perform, ended};
 ghost use Rattle.vm.specs.Loaded.{Loaded};
 ghost use Rattle.vm.specs.Told.{machineOf, answerOf};
-ghost use Rattle.run.specs.Loop.{machineAt, Going, finished, finishedAt, storedPc, storedIn, ranTold};
-
-mod instruction;
-
+ghost use Rattle.instruction.specs.Turn.{machineAt};
+ghost use Rattle.run.specs.Loop.{Going, finished, finishedAt, storedPc, storedIn, ranTold};
 use anomaly::Anomaly;
 use anomaly::End;
 use anomaly::Refusal;

@@ -1,10 +1,10 @@
--- `run::instruction::call` meets its contract. Assumes nothing.
+-- `instruction::call` meets its contract. Assumes nothing.
 use mathlib.Core.Path.{sym}
 use Rattle.vm.specs.Machine.{lendFrames}
-use Rattle.run.proofs.Turns.{turn-deep, turn-call}
+use Rattle.instruction.proofs.Turns.{turn-deep, turn-call}
 use borrow.Author.Needs.{needs}
-use Rattle.run.proofs.instruction.call.Statement.{statement}
-use Rattle.run.proofs.instruction.call.Tie as tie
+use Rattle.instruction.proofs.call.Statement.{statement}
+use Rattle.instruction.proofs.call.Tie as tie
 
 returns : tie.Need-returns
 returns c =

@@ -1,10 +1,10 @@
--- `run::instruction::reach` meets its contract. Assumes nothing.
+-- `instruction::reach` meets its contract. Assumes nothing.
 use mathlib.Core.Bool.{true, false}
 use native.Mathlib.Omega.{arith}
-use Rattle.run.proofs.Turns.{one-high, both-low, place-high, place-past, place-is}
+use Rattle.instruction.proofs.Turns.{one-high, both-low, place-high, place-past, place-is}
 use borrow.Author.Needs.{needs}
-use Rattle.run.proofs.instruction.reach.Statement.{statement}
-use Rattle.run.proofs.instruction.reach.Tie as tie
+use Rattle.instruction.proofs.reach.Statement.{statement}
+use Rattle.instruction.proofs.reach.Tie as tie
 
 returns : tie.Need-returns
 returns c =

@@ -1,10 +1,10 @@
--- `run::instruction::apply` meets its contract. Assumes nothing.
+-- `instruction::apply` meets its contract. Assumes nothing.
 use mathlib.Core.Path.{sym}
 use Rattle.vm.specs.Machine.{lendFrames, lendHeap, lendRun, unlent}
-use Rattle.run.proofs.Turns.{turn-skip, turn-goto, turn-stop, turn-halt}
+use Rattle.instruction.proofs.Turns.{turn-skip, turn-goto, turn-stop, turn-halt}
 use borrow.Author.Needs.{needs}
-use Rattle.run.proofs.instruction.apply.Statement.{statement}
-use Rattle.run.proofs.instruction.apply.Tie as tie
+use Rattle.instruction.proofs.apply.Statement.{statement}
+use Rattle.instruction.proofs.apply.Tie as tie
 
 set-requires : tie.Need-set-requires
 set-requires c κs =

@@ -1,12 +1,12 @@
--- `run::instruction::ret` meets its contract. Assumes nothing.
+-- `instruction::ret` meets its contract. Assumes nothing.
 use mathlib.Core.Path.{_≡_, sym}
 use Prim.Native.Nat.{suc, _-_}
 use native.Mathlib.Omega.{arith}
 use Rattle.vm.specs.Machine.{lendFrames}
-use Rattle.run.proofs.Turns.{turn-underflow, turn-ret}
+use Rattle.instruction.proofs.Turns.{turn-underflow, turn-ret}
 use borrow.Author.Needs.{needs}
-use Rattle.run.proofs.instruction.ret.Statement.{statement}
-use Rattle.run.proofs.instruction.ret.Tie as tie
+use Rattle.instruction.proofs.ret.Statement.{statement}
+use Rattle.instruction.proofs.ret.Tie as tie
 
 returns : tie.Need-returns
 returns c =

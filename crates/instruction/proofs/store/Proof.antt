@@ -1,11 +1,11 @@
--- `run::instruction::store` meets its contract. Assumes nothing.
+-- `instruction::store` meets its contract. Assumes nothing.
 use mathlib.Core.Path.{sym, _∙_}
 use native.Mathlib.Omega.{arith}
 use Rattle.vm.specs.Machine.{lendHeap}
-use Rattle.run.proofs.Turns.{place-room, turn-store-outside, turn-store}
+use Rattle.instruction.proofs.Turns.{place-room, turn-store-outside, turn-store}
 use borrow.Author.Needs.{needs}
-use Rattle.run.proofs.instruction.store.Statement.{statement}
-use Rattle.run.proofs.instruction.store.Tie as tie
+use Rattle.instruction.proofs.store.Statement.{statement}
+use Rattle.instruction.proofs.store.Tie as tie
 
 reach-requires : tie.Need-reach-requires
 reach-requires c κs =

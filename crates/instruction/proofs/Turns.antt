@@ -25,13 +25,13 @@ use Rattle.gc.specs.Lent.{pageSize, pagesOf, numbersOf, fits, outcome, allocOf,
 use Rattle.gc.proofs.Blocks.{pushed-is}
 use Rattle.effects.specs.declared.Effect.the-variants as effect
 use Rattle.program.specs.Image.{test, failing}
-use Rattle.run.specs.declared.instruction.Position.{Position}
-use Rattle.run.specs.declared.instruction.Place.{Place}
+use Rattle.instruction.specs.declared.Position.{Position}
+use Rattle.instruction.specs.declared.Place.{Place}
 use Rattle.vm.specs.Core.{Core, used, short, setReg, setRegs, setPc, setFrames, setMemory, setPages, setBytes}
 use Rattle.vm.specs.Run.{next, stop, provided, forward, addressed, loaded, stored8, returned, blockTo, apply, unless, limited}
 use Rattle.vm.specs.Machine.{Lent, Machine, sizes, lendFrames, lendHeap, memoryOf, view, withPages, traced, withFrames, withRegs, laid}
 use Rattle.vm.specs.declared.State.{State}
-use Rattle.run.specs.Loop.{atPc, atDepth, atGc, machineAt, Fitting, placeIn, goes, halts, stops, Turned, turned, turn}
+use Rattle.instruction.specs.Turn.{atPc, atDepth, atGc, machineAt, Fitting, placeIn, goes, halts, stops, Turned, turned, turn}
 use Rattle.vm.proofs.Fits.{none-of, fit-frames, short-frames, view-within, view-fits}
 use Rattle.vm.proofs.Replies.{pages-short}
 use Rattle.vm.proofs.Blocks.{at-said, refused-said}

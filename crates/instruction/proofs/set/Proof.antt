@@ -1,9 +1,9 @@
--- `run::instruction::set` meets its contract. Assumes nothing.
+-- `instruction::set` meets its contract. Assumes nothing.
 use mathlib.Core.Path.{sym}
-use Rattle.run.proofs.Turns.{turn-set}
+use Rattle.instruction.proofs.Turns.{turn-set}
 use borrow.Author.Needs.{needs}
-use Rattle.run.proofs.instruction.set.Statement.{statement}
-use Rattle.run.proofs.instruction.set.Tie as tie
+use Rattle.instruction.proofs.set.Statement.{statement}
+use Rattle.instruction.proofs.set.Tie as tie
 
 returns : tie.Need-returns
 returns c =

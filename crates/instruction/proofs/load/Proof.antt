@@ -1,11 +1,11 @@
--- `run::instruction::load` meets its contract. Assumes nothing.
+-- `instruction::load` meets its contract. Assumes nothing.
 use mathlib.Core.Path.{sym, _∙_}
 use native.Mathlib.Omega.{arith}
 use Rattle.vm.specs.Machine.{lendHeap}
-use Rattle.run.proofs.Turns.{place-room, turn-load-outside, turn-load}
+use Rattle.instruction.proofs.Turns.{place-room, turn-load-outside, turn-load}
 use borrow.Author.Needs.{needs}
-use Rattle.run.proofs.instruction.load.Statement.{statement}
-use Rattle.run.proofs.instruction.load.Tie as tie
+use Rattle.instruction.proofs.load.Statement.{statement}
+use Rattle.instruction.proofs.load.Tie as tie
 
 reach-requires : tie.Need-reach-requires
 reach-requires c κs =

@@ -8,7 +8,7 @@ ghost use Rattle.effects.specs.declared.Effect.{Effect};
 ghost use Rattle.vm.specs.Loaded.{Writable};
 ghost use Rattle.vm.specs.declared.State.{State};
 ghost use Rattle.vm.specs.Machine.{Lent, lendFrames, lendHeap, lendRun};
-ghost use Rattle.run.specs.Loop.{atPc, machineAt, Fitting, placeIn, turn, turnOf};
+ghost use Rattle.instruction.specs.Turn.{atPc, machineAt, Fitting, placeIn, turn, turnOf};
 use anomaly::Anomaly;
 use effects::Effect;
 use gc::Alloc;

@@ -1,10 +1,10 @@
--- `run::instruction::alloc` meets its contract. Assumes nothing.
+-- `instruction::alloc` meets its contract. Assumes nothing.
 use mathlib.Core.Path.{sym}
 use Rattle.vm.specs.Machine.{lendHeap}
-use Rattle.run.proofs.Turns.{turn-no-block, turn-block}
+use Rattle.instruction.proofs.Turns.{turn-no-block, turn-block}
 use borrow.Author.Needs.{needs}
-use Rattle.run.proofs.instruction.alloc.Statement.{statement}
-use Rattle.run.proofs.instruction.alloc.Tie as tie
+use Rattle.instruction.proofs.alloc.Statement.{statement}
+use Rattle.instruction.proofs.alloc.Tie as tie
 
 returns : tie.Need-returns
 returns c =

@@ -1,0 +1,2 @@
+-- One instruction, by what it asks for.
+pub mod Turns

@@ -1,0 +1,2 @@
+-- One instruction on state and buffers.
+pub mod Turn
