@@ -3,3 +3,4 @@ pub mod Probes
 pub mod Moves
 pub mod Counting
 pub mod NeverFull
+pub mod Inserting
