@@ -22,7 +22,7 @@ use Rattle.vm.specs.Run.{Step, next, halted, stop, step, after, go, root
 use Rattle.vm.specs.Names.{Given}
 use Rattle.vm.specs.Machine.{Lent, Machine, sizes, memoryOf, view, Call, run, setting, host, Host, Answer, ended, value, done, refused}
 use Rattle.vm.specs.Machine.{ran, idle, runs, runCall, act, hosted, granted, hostCall, framesOk, heapOk, returnsOk}
-use Rattle.vm.specs.Machine.{framesBelong, pagesBelong, found, testsBy, tests, tried, perform, Started, declined, begun, starts, buffersOk, start}
+use Rattle.vm.specs.Machine.{framesBelong, pagesBelong, found, testsBy, tests, tried, perform, starts, buffersOk, start}
 use Rattle.vm.proofs.Fits.{fits-of, view-fits}
 use Rattle.program.proofs.Tests.{failing-cons}
 use Rattle.vm.proofs.Refusals.{failing-numbered, image-alone, call-numbered}
@@ -30,14 +30,8 @@ use Rattle.vm.proofs.Upward.{go-next, go-halted, go-stop}
 use Rattle.vm.proofs.Kept.{GoodStep, step-good}
 use Rattle.vm.proofs.Runs.{entered-used, runs-go, runs-past}
 use Rattle.vm.specs.Loaded.{Checks, Returns}
+use Rattle.vm.specs.Listed.{Listed, RunEnds, RunAnswer, StartAnswer}
 use Rattle.vm.proofs.Inside.{Inside, StepOk, step-ok}
-use Rattle.vm.proofs.Starting.{start-passes}
-
--- an end with these steps under the budget b: 0, 5 or an anomaly's, and 5 only when the budget is completed
-pub record Listed (b e steps : ℕ) : Type 0 where
-  pub number : ((eqb e 0 || eqb e 5) || isAnomaly e) ≡ true
-  pub within : steps ≤ b
-  pub spends : e ≡ 5 → steps ≡ b
 
 listed-next : (b e steps : ℕ) → Listed b e steps → Listed (suc b) e (suc steps)
 listed-next b e steps h = let w = h .within in record { number = h .number; within = omega arith; spends = λ q. ap suc (h .spends q) }
@@ -56,13 +50,6 @@ stop-listed b e h =
 
 nothing-done : (b : ℕ) → Listed b 0 0
 nothing-done b = record { number = refl; within = omega arith; spends = λ q. absurd (omega arith) }
-
--- the answer of a run under the budget b
-abbrev pub RunAnswer : ℕ → Answer → Type 0
-RunAnswer b (ended e pc steps) = Listed b e steps
-RunAnswer b (value v) = ⊥
-RunAnswer b done = ⊥
-RunAnswer b (refused e) = isRefusal e ≡ true
 
 -- ---- a run on a checked image, from inside the code
 
@@ -226,11 +213,7 @@ run-answers im b m = by (failing (tests (run im b) (m .state) (m .lent))) refl
     by none f = run-ends im b m f (length (im .code)) refl
     by (some k) f = refusal-numbered k (failing-numbered _ k (call-numbered (run im b) (found (m .state) (m .lent))) f)
 
--- any image on any buffers: declined by a number of the table, or begun
-abbrev pub StartAnswer : Started → Type 0
-StartAnswer (declined e) = isRefusal e ≡ true
-StartAnswer (begun m) = Unit {0}
-
+-- any image on any buffers
 pub start-answers : (im : Image) (base : ℕ) (l : Lent) → StartAnswer (start im base l)
 unfolding start starts
 start-answers im base l = by (failing (imageTests (buffersOk base l) im)) refl
@@ -254,14 +237,7 @@ refusal-changes-nothing k m e h = by (failing (tests k (m .state) (m .lent))) (u
     by none q = act-refused k m e q
     by (some n) q = refl
 
--- ---- a loaded image
-
--- the answer of a run that is not refused, under the budget b
-abbrev pub RunEnds : ℕ → Answer → Type 0
-RunEnds b (ended e pc steps) = Listed b e steps
-RunEnds b (value v) = ⊥
-RunEnds b done = ⊥
-RunEnds b (refused e) = ⊥
+-- ---- a run that is not refused
 
 not-refused : (b : ℕ) (a : Answer) → RunAnswer b a → ((e : ℕ) → a ≡ refused e → ⊥) → RunEnds b a
 not-refused b (ended e pc steps) h n = h
@@ -269,9 +245,9 @@ not-refused b (value v) h n = h
 not-refused b done h n = h
 not-refused b (refused e) h n = n e refl
 
--- 'A loaded one comes to a listed end within its budget': the image of a start, run on the machine that the start left
-pub loaded-ends : (im : Image) (base b : ℕ) (l : Lent) (m : Machine) → start im base l ≡ begun m → RunEnds b (perform (run im b) m .answer)
+-- a run whose tests have passed comes to a listed end within its budget
+pub passed-ends : (im : Image) (b : ℕ) (m : Machine) → failing (tests (run im b) (m .state) (m .lent)) ≡ none
+    → RunEnds b (perform (run im b) m .answer)
 unfolding perform tried act runCall
-loaded-ends im base b l m h =
-    let f = start-passes im base l m b h in
+passed-ends im b m f =
     rw f (not-refused b _ (run-ends im b m f (length (im .code)) refl) (runs-ends (sizes (m .lent)) im b (length (im .code)) (view m)))

@@ -91,13 +91,13 @@ apply-stays effect.Halt c = tt
 
 -- ---- held to what is lent: it is kept, and fits
 
-module _ (P : List ℕ → Memory → Type 0) (n : Sizes) (c : Core) where
-  unless-every : (d : Core) (o : Option ℕ) → Of P c → Of P d → Every (Of P) (unless o c d)
+module _ (P : Core → Type 0) (n : Sizes) (c : Core) where
+  unless-every : (d : Core) (o : Option ℕ) → P c → P d → Every P (unless o c d)
   unfolding unless
   unless-every d none g h = h
   unless-every d (some k) g h = g
 
-  limited-every : (x : Step) → Of P c → Every (Of P) x → Every (Of P) (limited n c x)
+  limited-every : (x : Step) → P c → Every P x → Every P (limited n c x)
   unfolding limited
   limited-every (next d) g h = unless-every d _ g h
   limited-every halted g h = tt
@@ -123,14 +123,14 @@ every-both P Q (next d) p q = (p, q)
 every-both P Q halted p q = tt
 every-both P Q (stop e d) p q = (p, q)
 
-module _ (P : List ℕ → Memory → Type 0) (n : Sizes) (im : Image) (c : Core) (same : Of P c) (asks : (e : Effect) → Every (Of P) (apply e c)) where
-  pub step-every : Every (Of P) (step n im c)
+module _ (P : Core → Type 0) (n : Sizes) (im : Image) (c : Core) (same : P c) (asks : (e : Effect) → Every P (apply e c)) where
+  pub step-every : Every P (step n im c)
   unfolding step
   step-every = limited-every P n c (apply (asked im c) c) same (asks (asked im c))
 
-  pub step-fits : short n (used c) ≡ none → Every (λ d. Of P d × (short n (used d) ≡ none)) (step n im c)
+  pub step-fits : short n (used c) ≡ none → Every (λ d. P d × (short n (used d) ≡ none)) (step n im c)
   unfolding step
-  step-fits own = every-both (Of P) (λ d. short n (used d) ≡ none) (step n im c) step-every
+  step-fits own = every-both P (λ d. short n (used d) ≡ none) (step n im c) step-every
       (limited-fits n c own (apply (asked im c) c) (apply-stays (asked im c) c))
 
 -- ---- a run
@@ -162,7 +162,7 @@ limited-stays n c halted h = tt
 limited-stays n c (stop e d) h = h
 
 module _ (n : Sizes) (im : Image) where
-  step-stays : (c : Core) → Stays c (step n im c)
+  pub step-stays : (c : Core) → Stays c (step n im c)
   unfolding step
   step-stays c = limited-stays n c _ (apply-stays _ c)
 

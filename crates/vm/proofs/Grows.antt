@@ -54,7 +54,7 @@ pub step-grows : (n : Sizes) (im : Image) (c : Core) → Ends (c .memory .pages)
 unfolding setPages
 step-grows n im c h =
     let p = c .memory .pages in
-    step-every (λ r l. Grows p (l .pages)) n im c (same p h)
+    step-every (λ d. Grows p (d .memory .pages)) n im c (same p h)
     (apply-every (λ r l. Grows p (l .pages)) c (same p h) (λ r dst v k. k) (λ a v. stored-grows a v p h)
     (λ dst kind m. allocated-grows kind m p h))
 

@@ -52,7 +52,7 @@ abbrev pub GoodStep : Sizes → Memory → Step → Type 0
 GoodStep n c x = Every (λ d. Kept c (d .memory) × (short n (used d) ≡ none)) x
 
 pub step-good : (n : Sizes) (im : Image) (c : Core) → short n (used c) ≡ none → GoodStep n (c .memory) (step n im c)
-step-good n im c own = step-fits (λ r l. Kept (c .memory) l) n im c (kept (c .memory)) (λ e. apply-kept e c) own
+step-good n im c own = step-fits (λ d. Kept (c .memory) (d .memory)) n im c (kept (c .memory)) (λ e. apply-kept e c) own
 
 -- ---- a run
 

@@ -18,3 +18,5 @@ pub mod Boxes
 pub mod Loading
 pub mod Grows
 pub mod Registers
+pub mod Belongs
+pub mod Exactly

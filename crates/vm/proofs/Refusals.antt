@@ -19,7 +19,7 @@ use Rattle.op.specs.Reach.{checkOf}
 use Rattle.op.proofs.Sound.{check-refuses}
 use Rattle.vm.specs.declared.State.{State}
 use Rattle.vm.specs.Core.{Core, Memory, Sizes, used}
-use Rattle.program.specs.Image.{Image, Test, test, wordTest, wordTests, counts, imageTests, failing}
+use Rattle.program.specs.Image.{Image, Test, test, imageOk, wordTest, wordTests, counts, imageTests, failing}
 use Rattle.vm.specs.Machine.{Lent, Machine, sizes, memoryOf, view, reset, putPc, putReg, allocate, option, intern, internSmall, Call}
 use Rattle.vm.specs.Machine.{stateOf, run, setting, host, framesOk, heapOk, slotsOk, returnsOk, framesBelong, pagesBelong, namesBelong, smallOk, Found, found, testsBy, tests}
 use Rattle.vm.specs.Core.{_⊑_, spent}
@@ -32,7 +32,7 @@ use Rattle.vm.proofs.Holds.{Holds}
 unfoldable pub pagesOn : Memory → Bool
 pagesOn l = Heap.soundOf (numbersOf (l .pages)) (length (l .pages .bytes))
 
-pub tableOn : Memory → Bool
+unfoldable pub tableOn : Memory → Bool
 tableOn l =
     (leb (length (l .slots)) (length (l .slots)) && (eqb (length (l .slots)) 0 || Table.slotCount (length (l .slots))))
     && Table.slotsOk (l .pages .base) (length (l .pages .bytes)) (l .names) (l .slots)
@@ -62,7 +62,7 @@ module _ (n : Sizes) (c : Core) (m : Machine) (h : Holds n c m) where
   unfolding view
   frames-are = ap (λ (d : Core). d .frames) (h .core)
 
-  frames-same : (k : ℕ) → framesBelong k (m .state) (m .lent) ≡ returnsOk k (c .frames)
+  pub frames-same : (k : ℕ) → framesBelong k (m .state) (m .lent) ≡ returnsOk k (c .frames)
   unfolding framesBelong
   frames-same k = rw (depth-fits, frames-are) refl
 
@@ -137,6 +137,25 @@ tests-are n (host (option o)) c m h = rw (legal-heap n c m h, pages-same n c m h
 tests-are n (host (intern s)) c m h = rw (legal-heap n c m h, legal-slots n c m h, names-same n c m h) refl
 tests-are n (host (internSmall z w)) c m h = rw (legal-heap n c m h, legal-slots n c m h, names-same n c m h) refl
 
+-- ---- the tests of an image: 10, 11, 16, and 12 to 15 for a word; then those that follow in a run
+
+module _ (P : ℕ → Type 0) (word : (k : ℕ) → (12 ≤ k) × (k ≤ 15) → P k) where
+  word-each : (n : Counts) (w : ℕ) (x : Checked) → checkOf n w ≡ x → wordTest x .passes ≡ false → P (wordTest x .number)
+  unfolding wordTest
+  word-each n w Checked.Fine e h = absurd (true≢false h)
+  word-each n w (Checked.Refused k) e h = word k (check-refuses n w k e)
+
+  words-each : (n : Counts) (ws : List ℕ) → Each P (wordTests n ws)
+  unfolding wordTests
+  words-each n [] = tt
+  words-each n (w ∷ ws) = (word-each n w (checkOf n w) refl, words-each n ws)
+
+  pub image-each : (lent : Bool) (im : Image) (rest : List Test) → ((lent && imageOk im) ≡ false → P 10) → P 11 → P 16 → Each P rest
+      → Each P (imageTests lent im ++ rest)
+  unfolding imageTests
+  image-each lent im rest ten eleven sixteen h =
+      (ten, (λ _. eleven, (λ _. sixteen, each-append P (wordTests (counts im) (im .code)) rest (words-each (counts im) (im .code)) h)))
+
 -- ---- a test that fails refuses with a number from 9 to 17, and none of these is one of running out
 
 abbrev pub Refusing : ℕ → Type 0
@@ -145,26 +164,9 @@ Refusing k = (9 ≤ k) × (k ≤ 17)
 abbrev pub Numbered : List Test → Type 0
 Numbered ts = Each Refusing ts
 
-word-numbered : (n : Counts) (w : ℕ) (x : Checked) → checkOf n w ≡ x → wordTest x .passes ≡ false → Refusing (wordTest x .number)
-unfolding wordTest
-word-numbered n w Checked.Fine e h = absurd (true≢false h)
-word-numbered n w (Checked.Refused k) e h = let r = check-refuses n w k e in (omega arith, omega arith)
-
-words-numbered : (n : Counts) (ws : List ℕ) → Numbered (wordTests n ws)
-unfolding wordTests
-words-numbered n [] = tt
-words-numbered n (w ∷ ws) = (word-numbered n w (checkOf n w) refl, words-numbered n ws)
-
--- the tests of an image, with those that follow in a run
 pub image-numbered : (lent : Bool) (im : Image) (rest : List Test) → Numbered rest → Numbered (imageTests lent im ++ rest)
-unfolding imageTests
-image-numbered lent im rest h = (
-  λ _. (lit≤ tt, lit≤ tt),
-  (
-    λ _. (lit≤ tt, lit≤ tt),
-    (λ _. (lit≤ tt, lit≤ tt), each-append Refusing (wordTests (counts im) (im .code)) rest (words-numbered (counts im) (im .code)) h),
-  ),
-)
+image-numbered lent im rest h =
+    image-each Refusing (λ k r. (omega arith, omega arith)) lent im rest (λ _. (lit≤ tt, lit≤ tt)) (lit≤ tt, lit≤ tt) (lit≤ tt, lit≤ tt) h
 
 pub image-alone : (lent : Bool) (im : Image) → Numbered (imageTests lent im)
 image-alone lent im = subst Numbered (append-nil (imageTests lent im)) (image-numbered lent im [] tt)

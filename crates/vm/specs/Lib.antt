@@ -5,3 +5,4 @@ pub mod Names
 pub mod Machine
 pub mod Told
 pub mod Loaded
+pub mod Listed

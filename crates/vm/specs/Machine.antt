@@ -332,6 +332,20 @@ tried (some e) k m = record { answer = refused e; machine = m }
 unfoldable pub perform : Call → Machine → Called
 perform k m = tried (failing (tests k (m .state) (m .lent))) k m
 
+-- ---- a list of calls
+
+-- all answers to a list of calls, and the machine after it: 'each call gets the state last returned and the same buffers, whole and as last left,
+-- and nobody else writes them'
+pub record Answers : Type 0 where
+  pub answers : List Answer
+  pub machine : Machine
+
+unfoldable pub answersTo : List Call → Machine → Answers
+answersTo [] m = record { answers = []; machine = m }
+answersTo (k ∷ ks) m =
+    let r = answersTo ks (perform k m .machine) in
+    record { answers = perform k m .answer ∷ r .answers; machine = r .machine }
+
 -- ---- the start
 
 pub data Started : Type 0 where
