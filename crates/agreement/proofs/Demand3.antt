@@ -9,7 +9,7 @@ use lib.ListN.{length}
 use Rattle.vm.specs.Core.{Sizes, Core, used, short, spent, _⊑_, setPc, setMemory}
 use Rattle.program.specs.Image.{Image, failing}
 use Rattle.vm.specs.Machine.{Machine, sizes, stateOf, Host, Call, run, setting, host, Answer, ended, value, done, refused, ranOut, Called, runs}
-use Rattle.vm.specs.Machine.{hosted, granted, act, tried}
+use Rattle.vm.specs.Machine.{hosted, granted, act, tried, answersTo}
 use Rattle.vm.proofs.Fits.{short-spent, short-up}
 use Rattle.vm.proofs.Runs.{runs-good, CutOn, runs-up}
 use Rattle.vm.proofs.Holds.{Holds}
@@ -17,7 +17,7 @@ use Rattle.vm.specs.Machine.{testsBy}
 use Rattle.vm.proofs.Refusals.{testsOn, run-unspent}
 use Rattle.vm.proofs.Calls.{settingOn, holds-run, holds-setting, holds-host, perform-is, run-is, host-is}
 use Rattle.vm.proofs.Starting.{first, start-holds}
-use Rattle.agreement.specs.Demand3.{Pair, raised, CutAt, Cut, Same, Agree, Demand3, answersTo, smaller, larger, NoneOut, Level, Demand3-whole}
+use Rattle.agreement.specs.Demand3.{Pair, raised, CutAt, Cut, Same, Agree, Demand3, smaller, larger, NoneOut, Level, Demand3-whole}
 
 raised-tests : (k : Call) (m : ℕ) (c : Core) → testsOn (raised k m) c ≡ testsOn k c
 unfolding raised testsOn testsBy

@@ -6,7 +6,8 @@ use mathlib.Core.Bool.{true, false}
 use mathlib.Core.List.{List, [], _∷_}
 use Rattle.vm.specs.Core.{_⊑_, setPc}
 use Rattle.program.specs.Image.{Image}
-use Rattle.vm.specs.Machine.{Lent, Machine, sizes, keepPc, view, Call, run, setting, host, Answer, ended, value, done, refused, ranOut, perform, begun, start}
+use Rattle.vm.specs.Machine.{Lent, Machine, sizes, keepPc, view, Call, run, setting, host, Answer, ended, value, done, refused, ranOut, perform}
+use Rattle.vm.specs.Machine.{answersTo, begun, start}
 
 -- a call made on both machines, with the same arguments; 'each run is lent an image, .. the same on both machines'. `more` is what the
 -- larger's budget has on top
@@ -60,18 +61,6 @@ Demand3 =
     → (calls : List Pair) → Agree s l calls
 
 -- ---- as the paper puts it: 'one claim about the whole list'
-
--- all answers to a list of calls, and the machine after it: 'each call gets the state last returned and the same buffers, whole and as last left,
--- and nobody else writes them'
-pub record Answers : Type 0 where
-  pub answers : List Answer
-  pub machine : Machine
-
-unfoldable pub answersTo : List Call → Machine → Answers
-answersTo [] m = record { answers = []; machine = m }
-answersTo (k ∷ ks) m =
-    let r = answersTo ks (perform k m .machine) in
-    record { answers = perform k m .answer ∷ r .answers; machine = r .machine }
 
 unfoldable pub smaller : List Pair → List Call
 smaller [] = []

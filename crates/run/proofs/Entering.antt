@@ -33,7 +33,7 @@ use Rattle.vm.proofs.Buffers.{frames-room, heap-low}
 use Rattle.vm.proofs.Replies.{over-first}
 use Rattle.vm.proofs.Runs.{runs-go, runs-past}
 use Rattle.vm.proofs.Inside.{Inside}
-use Rattle.vm.proofs.Ends.{Listed, all-passed, code-size, checks, from-inside, go-listed}
+use Rattle.vm.proofs.Ends.{all-passed, code-size, checks, from-inside, go-listed}
 use Rattle.instruction.proofs.Turns.{laid-same}
 
 take-first : (d : ℕ) (xs : List ℕ) (v : ℕ) → take d (set xs 0 v) ≡ set (take d xs) 0 v
