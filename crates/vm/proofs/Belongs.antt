@@ -9,8 +9,8 @@ use lib.ListN.{length, length-append, length-replicate}
 use borrow.Author.Tests.{lt-ltb, le-leb}
 use Rattle.memory.specs.Lists.{write}
 use Rattle.memory.proofs.Over.{length-write}
-use Rattle.string.specs.declared.table.Probe.{Probe}
-use Rattle.string.specs.declared.table.Probe.the-variants.{Found, Vacant, Full}
+use Rattle.str_table.specs.declared.Probe.{Probe}
+use Rattle.str_table.specs.declared.Probe.the-variants.{Found, Vacant, Full}
 use Rattle.string.specs.Hash.{hashOf}
 use Rattle.string.specs.Payload.{payloadOf, payloadSize, reaches}
 use Rattle.gc.specs.Pages.{Pages, Block, growOf, block, pushed, fitted, allocated}
@@ -27,7 +27,7 @@ use Rattle.vm.proofs.Kept.{allocated-base}
 use Rattle.vm.proofs.Grows.{Ends, allocated-grows}
 use Rattle.vm.proofs.Blocks.{Placed, allocated-placed}
 use Rattle.vm.proofs.Refusals.{pagesOn, tableOn}
-use Rattle.string.proofs.Inserting.{SlotsSound, slots-sound-ok, slots-sound-more, insert-sound}
+use Rattle.str_table.proofs.Inserting.{SlotsSound, slots-sound-ok, slots-sound-more, insert-sound}
 
 -- none of the clauses of 9: 'pushed pages absent, broken or past the heap; the last page's place no page start inside them, or its length past
 -- their end'
