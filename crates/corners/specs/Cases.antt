@@ -1,5 +1,5 @@
--- Each case marked (P) in document 01, and its worked image, as rows of one table, and the one fact, by computation, that all rows hold. What
--- speaks of the whole machine goes through its own start, calls and run. Assumes nothing.
+-- Each case marked (P) in document 01, and its worked image, as rows of one table, and the one fact, by computation, that all rows hold. Every row
+-- goes through the machine's own start, calls and run but one, `small_hash`, which no call of the definition asks. Assumes nothing.
 use mathlib.Core.Path.{_≡_, refl}
 use mathlib.Core.Bool.{true}
 use mathlib.Core.Option.{none}
@@ -10,12 +10,9 @@ use lib.Ieee.{isNan, ofBits, toBits, ofInt, toSigned}
 use Rattle.memory.specs.Bytes.{bytesOf, valueOf}
 use Rattle.memory.specs.Lists.{over, write, same}
 use Rattle.memory.specs.Rows.{hold}
-use Rattle.value.specs.declared.int.Divided.{Divided}
-use Rattle.value.specs.declared.int.Divided.the-variants.{Exact, ByZero, Overflow}
-use Rattle.value.specs.Int.{signed, pattern, quotientOf, remainderOf}
+use Rattle.value.specs.Int.{signed, pattern}
 use Rattle.value.specs.Int as Int
 use Rattle.value.specs.Double.{bits}
-use Rattle.value.specs.Cast.{castToInt, castToDouble}
 use Rattle.string.specs.Hash.{mixed, folded, chunks, hashOf, smallHashOf}
 use Rattle.string.specs.Payload.{payloadOf, reaches, headed, holds}
 use Rattle.str_table.specs.Table.{home, probe, lookup, never, filled, placed}
@@ -36,7 +33,7 @@ use Rattle.vm.specs.Run.{provided, forward, addressed, loaded, stored8, returne
 use Rattle.vm.specs.Run.{root, entered, stored}
 use Rattle.vm.specs.Names as Names
 use Rattle.vm.specs.Machine.{Lent, Machine, sizes, memoryOf, view, withPages, withNames, traced, withFrames, withRegs, allocate, option}
-use Rattle.vm.specs.Machine.{intern, Call, run, host, Answer, ended, value, done, refused, ran, idle, runs, hosted, withSetting, laid}
+use Rattle.vm.specs.Machine.{intern, internSmall, Call, run, host, Answer, ended, value, done, refused, ran, idle, runs, hosted, withSetting, laid}
 use Rattle.vm.specs.Machine.{runLeaves, hostLeaves, granted, hostCall, runCall, act, framesOk, heapOk, slotsOk, returnsOk, framesBelong}
 use Rattle.vm.specs.Machine.{pagesBelong, namesBelong, smallOk, testsBy, tests, tried, perform, Started, declined, begun, firstPage, firstMemory}
 use Rattle.vm.specs.Machine.{blank, begin, starts, start}
@@ -70,9 +67,9 @@ startedIn l (begun m) = m
 unfoldable pub started : Image → ℕ → ℕ → ℕ → Machine
 started im frames pages slots = startedIn (lent frames pages slots) (start im B (lent frames pages slots))
 
--- a machine started on no code, with two pages
+-- a machine started on no code, with three pages
 abbrev fresh : ℕ → ℕ → Machine
-fresh frames slots = started (image [] noTables) frames 2 slots
+fresh frames slots = started (image [] noTables) frames 3 slots
 
 unfoldable pub afterAll : List Call → Machine → Machine
 afterAll [] m = m
@@ -104,12 +101,6 @@ unfoldable pub singles : ℕ → List Call
 singles zero = []
 singles (suc n) = host (intern (n ∷ [])) ∷ singles n
 
--- a division's pattern; its ends are not among these cases
-unfoldable pub shown : Divided → ℕ
-shown (Exact p) = p
-shown ByZero = 2 ^ 64 + 1
-shown Overflow = 2 ^ 64 + 7
-
 -- LoadI r0, subject; Switch on Str over seven slots; Halt; then r1 = 1 for slot 0 and r1 = 6 for slot 6
 unfoldable pub switching : ℕ → Image
 switching subject =
@@ -125,15 +116,53 @@ calling = image (39 ∷ 59 ∷ []) noTables
 unfoldable pub worked : Image
 worked = image (0x000000070000001b ∷ 0xffffffff00000101 ∷ 0x000000000000003b ∷ []) noTables
 
+-- LoadI r0, B+48; LoadI r1, −1; Store: the word at r0 is r1; Halt
+unfoldable pub writing : Image
+writing = image ((27 + (B + 48) * 2 ^ 32) ∷ (27 + 0x100 + 0xffffffff * 2 ^ 32) ∷ (54 + 0x1_0000) ∷ 59 ∷ []) noTables
+
+-- a machine in which the next payload, at B+48, will lie on bytes that are not zero
+abbrev written : Machine
+written = perform (run writing 10) (fresh 1 64) .machine
+
+-- instructions to r2, of r0 and, if they divide, r1: CastToInt, CastToDouble, IDiv, IMod
+abbrev toInt : ℕ
+toInt = 50 + 0x200
+
+abbrev toDouble : ℕ
+toDouble = 51 + 0x200
+
+abbrev quotient : ℕ
+quotient = 6 + 0x200 + 0x100_0000
+
+abbrev remainder : ℕ
+remainder = 8 + 0x200 + 0x100_0000
+
+-- LoadG of r0, r1 and r2: the operands x and y, and 99, which is no result of these cases; the instruction; Halt
+unfoldable pub computing : ℕ → ℕ → ℕ → Image
+computing word x y = record {
+  code = 28 ∷ (28 + 0x100 + 1 * 2 ^ 32) ∷ (28 + 0x200 + 2 * 2 ^ 32) ∷ word ∷ 59 ∷ [];
+  globals = x ∷ y ∷ 99 ∷ [];
+  switches = noTables;
+  lookups = noTables;
+  defaults = [];
+}
+
+-- r2 after that run
+abbrev computed : ℕ → ℕ → ℕ → ℕ
+computed word x y = register 2 (perform (run (computing word x y) 10) (fresh 1 64) .machine)
+
 unfoldable pub rows : List (ℕ × ℕ)
 rows =
-    -- string.rs: the hash of the empty string is 0, by `hash` and by `small_hash`
-    (hashOf [], 0)
+    -- string.rs: the hash of the empty string is 0, by `hash`: the header, length and hash, on a word of ones; and by `small_hash`
+    (heapWord 48 written, 2 ^ 64 - 1)
+    ∷ (heapWord 48 (afterAll (host (intern []) ∷ []) written), 0)
+    ∷ (heapWord 48 (afterAll (host (internSmall 0 0) ∷ []) written), 0)
     ∷ (smallHashOf 0 0, 0)
-    -- first `insert` makes 64 slots; 32 strings fit; the 33rd makes 128
+    -- first `insert` makes 64 slots; 32 strings fit; the 33rd makes 128, and 33 are counted
     ∷ (afterAll (singles 1) (fresh 1 128) .state .strings .active, 64)
     ∷ (afterAll (singles 32) (fresh 1 128) .state .strings .active, 64)
     ∷ (afterAll (singles 33) (fresh 1 128) .state .strings .active, 128)
+    ∷ (afterAll (singles 33) (fresh 1 128) .state .strings .len, 33)
     -- .. replacing the old ones in slot order: two names whose homes collide in 128 slots stand in the order of the old slots
     ∷ (getD (afterAll (singles 33) (fresh 1 128) .lent .slots) 8 0, B + 0x130)
     ∷ (getD (afterAll (singles 33) (fresh 1 128) .lent .slots) 9 0, B + 0x310)
@@ -153,20 +182,20 @@ rows =
     ∷ (answered (host (allocate 0 8 4048)) (fresh 1 64), B + 48)
     ∷ (afterAll (host (allocate 0 8 4048) ∷ []) (fresh 1 64) .state .gc .pushed, 4096)
     ∷ (answered (host (allocate 0 8 4049)) (fresh 1 64), B + 4112)
-    -- `grow` for size 4,072 makes 4,096 bytes, for 4,073 it makes 8,192
-    ∷ (Pages.growOf 4096 4072, 4096)
-    ∷ (Pages.growOf 4096 4073, 8192)
+    -- `grow` for size 4,072 makes 4,096 bytes, for 4,073 it makes 8,192, behind page 0
+    ∷ (afterAll (host (allocate 0 8 4072) ∷ []) (fresh 1 64) .state .gc .pushed, 4096 + 4096)
+    ∷ (afterAll (host (allocate 0 8 4073) ∷ []) (fresh 1 64) .state .gc .pushed, 4096 + 8192)
     -- value/mod.rs: `CastToInt` of a NaN, −0.5, 2^63, −2^63
-    ∷ (castToInt 0x7ff8_0000_0000_0000, 0)
-    ∷ (castToInt 0xbfe0_0000_0000_0000, 0)
-    ∷ (castToInt 0x43e0_0000_0000_0000, 2 ^ 63 - 1)
-    ∷ (castToInt 0xc3e0_0000_0000_0000, 2 ^ 63)
+    ∷ (computed toInt 0x7ff8_0000_0000_0000 1, 0)
+    ∷ (computed toInt 0xbfe0_0000_0000_0000 1, 0)
+    ∷ (computed toInt 0x43e0_0000_0000_0000 1, 2 ^ 63 - 1)
+    ∷ (computed toInt 0xc3e0_0000_0000_0000 1, 2 ^ 63)
     -- `CastToDouble` of 2^53+1 and 2^53+3
-    ∷ (castToDouble (2 ^ 53 + 1), 0x4340_0000_0000_0000)
-    ∷ (castToDouble (2 ^ 53 + 3), 0x4340_0000_0000_0002)
+    ∷ (computed toDouble (2 ^ 53 + 1) 1, 0x4340_0000_0000_0000)
+    ∷ (computed toDouble (2 ^ 53 + 3) 1, 0x4340_0000_0000_0002)
     -- vm.rs: −7 divided by 2 is −3, remainder −1
-    ∷ (shown (quotientOf (2 ^ 64 - 7) 2), 2 ^ 64 - 3)
-    ∷ (shown (remainderOf (2 ^ 64 - 7) 2), 2 ^ 64 - 1)
+    ∷ (computed quotient (2 ^ 64 - 7) 2, 2 ^ 64 - 3)
+    ∷ (computed remainder (2 ^ 64 - 7) 2, 2 ^ 64 - 1)
     -- `Switch` on Str, first B+48: subject B+72 is slot 6, subject B+50 slot 0
     ∷ (register 1 (perform (run (switching (B + 72)) 10) (fresh 1 64) .machine), 6)
     ∷ (register 1 (perform (run (switching (B + 50)) 10) (fresh 1 64) .machine), 1)
@@ -184,7 +213,7 @@ rows =
     ∷ []
 
 pub all-hold : hold rows ≡ true
-unfolding rows hold lent startedIn started afterAll said summed singles shown switching calling worked bytesOf valueOf over write same
+unfolding rows hold lent startedIn started afterAll said summed singles switching calling worked writing computing bytesOf valueOf over write same
     signed pattern Int.divided bits isNan ofBits toBits ofInt toSigned mixed folded chunks hashOf smallHashOf payloadOf reaches headed holds
     home probe lookup never filled placed storedHash movedOne moved roomOf widened withRoom spareAfter Table.slotCount Table.activeOk
     Table.filledIn Table.headersIn Table.countOk Table.slotsOk Table.soundOf headerOf Pages.growOf Pages.gapOf Pages.holds
