@@ -6,9 +6,20 @@ use native.Mathlib.Omega.{arith}
 use lib.ListN.{length, length-replicate}
 use lib.Seq.{length-take-le}
 use Rattle.memory.proofs.Over.{length-over}
+use Rattle.io.specs.Counts.{Counts}
 use borrow.Author.Needs.{needs}
 use Rattle.runner.proofs.main.Statement.{statement}
 use Rattle.runner.proofs.main.Tie as tie
+
+-- what was read is the beginning of the buffer
+read-within : (c : tie.After-n) → Counts (c .n .given .0 .0) (c .before .before .before .read .last .0)
+read-within c = rw (c .n .given .1) at (c .before .before .before .read .ensures)
+
+array-share-prefix-input : tie.Need-array-share-prefix-input
+array-share-prefix-input c = read-within (c .before) .0
+
+slice-aggregate-answer : tie.Need-slice-aggregate-answer
+slice-aggregate-answer c = read-within (c .before .before) .1
 
 array-share-prefix-out : tie.Need-array-share-prefix-out
 array-share-prefix-out c =
@@ -24,5 +35,5 @@ slice-aggregate-write-all c =
 pub main-spec : {M : Type 1} → statement M
 main-spec =
     tie.close
-    (tie.spec (λ c. search needs) (λ c κs. search needs) (λ c. search needs) (λ c. search needs) (λ c κs. search needs)
-    array-share-prefix-out slice-aggregate-write-all (λ c κs. search needs) (λ c. search needs))
+    (tie.spec (λ c. search needs) (λ c κs. search needs) (λ c. search needs) (λ c. search needs) (λ c. search needs) array-share-prefix-input
+    slice-aggregate-answer (λ c κs. search needs) array-share-prefix-out slice-aggregate-write-all (λ c κs. search needs) (λ c. search needs))
