@@ -14,9 +14,10 @@ use Rattle.vm.specs.Machine.{begin, blank}
 use Rattle.vm.specs.Told.{machineOf, startedOn}
 use Rattle.vm.proofs.Ends.{refusal-changes-nothing}
 use Rattle.vm.proofs.Registers.{call-same}
-use Rattle.girzhanok.specs.Words.{stateWords, unpacked}
-use Rattle.girzhanok.specs.Served.{kept, left, within, serve, serveStart}
-use Rattle.girzhanok.proofs.Packing.{unpack-pack}
+use Rattle.answers.specs.Words.{stateWords, unpacked}
+use Rattle.answers.specs.Answered.{kept}
+use Rattle.girzhanok.specs.Served.{left, within, serve, serveStart}
+use Rattle.answers.proofs.Packing.{unpack-pack}
 
 -- ---- words
 

@@ -1,5 +1,3 @@
--- A state in words and back; what each call comes to.
-pub mod Packing
-pub mod Replied
+-- What each call comes to, and what it leaves in the words.
 pub mod Serving
 pub mod Carried

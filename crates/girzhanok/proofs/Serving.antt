@@ -11,8 +11,9 @@ use Rattle.vm.specs.declared.State.{State}
 use Rattle.vm.specs.Machine.{Lent, Machine, Call, setting, Setting, refused, Called, tests, act, tried, perform, Started, declined, begun, start}
 use Rattle.vm.specs.Told.{machineOf, startedOn}
 use Rattle.vm.proofs.Ends.{refusal-changes-nothing}
-use Rattle.girzhanok.specs.Words.{stateWords, unpacked}
-use Rattle.girzhanok.specs.Served.{servedOf, numberOf, answered, kept, left, within, serve, serveStart}
+use Rattle.answers.specs.Words.{stateWords, unpacked}
+use Rattle.answers.specs.Answered.{numberOf, answered, kept}
+use Rattle.girzhanok.specs.Served.{servedOf, left, within, serve, serveStart}
 
 -- a call of the machine, its number, its words and what it answers
 served-within : (words old : List ℕ) (l : Lent) → stateWords ≤ length words → (c d : Called) → c ≡ d → (r : ℕ) (w v : List ℕ)

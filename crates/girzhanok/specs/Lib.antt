@@ -1,3 +1,2 @@
--- The library of terminals, defined: a state in words, and what each call returns and leaves.
-pub mod Words
+-- The library of terminals, defined: what each call returns and leaves.
 pub mod Served

@@ -1,16 +1,14 @@
 -- What a call of the library returns and leaves: the machine's call on the state that the words hold. Definitions only.
 use Prim.Native.Nat.{ℕ}
 use mathlib.Core.Bool.{Bool, true, false}
-use mathlib.Core.Option.{Option, none, some}
-use mathlib.Core.List.{List, [], _∷_}
+use mathlib.Core.List.{List, []}
 use lib.ListN.{length}
 use lib.Dec.{leb}
-use Rattle.memory.specs.Lists.{over}
 use Rattle.program.specs.Image.{Image}
-use Rattle.vm.specs.Machine.{Lent, Call, Answer, ended, value, done, refused, Called, perform, start}
-use Rattle.vm.specs.declared.State.{State}
+use Rattle.vm.specs.Machine.{Lent, Call, Called, perform, start}
 use Rattle.vm.specs.Told.{machineOf, startedOn}
-use Rattle.girzhanok.specs.Words.{stateWords, packed, unpacked}
+use Rattle.answers.specs.Words.{stateWords, unpacked}
+use Rattle.answers.specs.Answered.{numberOf, answered, kept}
 
 -- the number returned, the words of the state, what is answered beside the number, and the lent buffers
 pub record Served : Type 0 where
@@ -21,32 +19,6 @@ pub record Served : Type 0 where
 
 abbrev pub servedOf : ℕ → List ℕ → List ℕ → Lent → Served
 servedOf number words answers lent = record { number = number; words = words; answers = answers; lent = lent }
-
--- the paper's number: 0 for what is done
-unfoldable pub numberOf : Answer → ℕ
-numberOf (ended e pc steps) = e
-numberOf (value v) = 0
-numberOf done = 0
-numberOf (refused e) = e
-
--- pc and steps of a run, the value of what was given; a refused call answers its number alone
-unfoldable pub answered : Answer → List ℕ → List ℕ
-answered (ended e pc steps) old = pc ∷ steps ∷ []
-answered (value v) old = v ∷ []
-answered done old = old
-answered (refused e) old = old
-
--- an option of v, or of none
-abbrev pub given : Bool → ℕ → Option ℕ
-given true v = some v
-given false v = none
-
--- the words of the state: a refused call leaves them as they were
-unfoldable pub kept : Answer → State → List ℕ → List ℕ
-kept (ended e pc steps) s words = over (packed s) words
-kept (value v) s words = over (packed s) words
-kept done s words = over (packed s) words
-kept (refused e) s words = words
 
 -- a machine's call, as the library serves it
 unfoldable pub left : List ℕ → List ℕ → Called → Served

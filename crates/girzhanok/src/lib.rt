@@ -4,11 +4,8 @@ ghost use mathlib.Core.List.{[], _∷_};
 ghost use Rattle.program.specs.Words.{imageIn};
 ghost use Rattle.vm.specs.Machine.{Lent, lendFrames, lendHeap, lendRun, lendNames, run, setting, reset, putPc, putReg, host, allocate, option, intern, internSmall};
 ghost use Rattle.vm.specs.Told.{lentOf};
-ghost use Rattle.girzhanok.specs.Served.{servedOf, given, serve, serveStart};
-
-mod answers;
-mod words;
-
+ghost use Rattle.answers.specs.Answered.{given};
+ghost use Rattle.girzhanok.specs.Served.{servedOf, serve, serveStart};
 use anomaly::End;
 use anomaly::Refusal;
 use anomaly::Steps;
@@ -17,13 +14,15 @@ use answers::answer_name;
 use answers::answer_run;
 use answers::answer_value;
 use answers::opt;
+use answers::words::pack;
+use answers::words::unpack;
+use answers::words::unpack_heap;
+use answers::words::unpack_table;
 use names::interner;
 use vm::start;
-use words::STATE_WORDS;
-use words::pack;
-use words::unpack;
-use words::unpack_heap;
-use words::unpack_table;
+
+// The words of a state.
+pub const STATE_WORDS: usize = 40;
 
 #[no_mangle]
 pub extern "C" fn girzhanok_start(

@@ -1,7 +1,7 @@
 -- `girzhanok::girzhanok_intern` meets its contract. Assumes nothing.
 use mathlib.Core.Path.{refl}
 use native.Mathlib.Omega.{arith}
-use Rattle.girzhanok.specs.Words.{unpacked}
+use Rattle.answers.specs.Words.{unpacked}
 use Rattle.girzhanok.proofs.Serving.{too-short, served}
 use borrow.Author.Needs.{needs}
 use Rattle.girzhanok.proofs.girzhanok_intern.Statement.{statement}

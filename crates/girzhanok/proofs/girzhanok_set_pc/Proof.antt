@@ -1,6 +1,6 @@
 -- `girzhanok::girzhanok_set_pc` meets its contract. Assumes nothing.
 use mathlib.Core.Path.{refl}
-use Rattle.girzhanok.specs.Served.{numberOf, answered, kept}
+use Rattle.answers.specs.Answered.{numberOf, answered, kept}
 use Rattle.girzhanok.proofs.Serving.{too-short, served}
 use native.Mathlib.Omega.{arith}
 use borrow.Author.Needs.{needs}
