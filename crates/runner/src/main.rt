@@ -12,6 +12,6 @@ fn main() {
         return;
     };
     let mut out = [0u8; report::LONGEST];
-    let len = image::answer(&input[..n], &mut out);
+    let len = image_runner::answer(&input[..n], &mut out);
     io::write_all(STDOUT_FILENO, &out[..len]);
 }

@@ -8,11 +8,9 @@
 // SOURCE has five characters: `rust ` for an answer that the original gave, `paper` for one that document 01 gives.
 ghost use mathlib.Core.Path.{_≡_};
 ghost use lib.ListN.{length};
-ghost use Rattle.memory.specs.Lists.{same};
-ghost use Rattle.image.specs.Runner.{answerOf};
+use comparison::agrees;
 use libc::STDIN_FILENO;
 use libc::STDOUT_FILENO;
-use report::LONGEST;
 use text::all_digits;
 use text::line_end;
 use text::number;
@@ -89,32 +87,6 @@ impl Tally {
     fn is_none(self) -> bool {
         self.agree == 0 && self.differ == 0
     }
-}
-
-// Whether two byte strings are equal.
-fn is_same(a: &[u8], b: &[u8]) -> bool
-    ensures { λ r. ⌜ r ≡ same (now (a .entry)) (now (b .entry)) ⌝ }
-{
-    if a.len() != b.len() {
-        return false;
-    }
-    let mut i: usize = 0;
-    while i < a.len() {
-        if a[i] != b[i] {
-            return false;
-        }
-        i += 1;
-    }
-    true
-}
-
-// Whether the runner's output for an image is the stored one.
-fn agrees(input: &[u8], stored: &[u8]) -> bool
-    ensures { λ r. ⌜ r ≡ same (answerOf (now (input .entry))) (now (stored .entry)) ⌝ }
-{
-    let mut out = [0u8; LONGEST];
-    let n = image::answer(input, &mut out);
-    is_same(&out[..n], stored)
 }
 
 // A line that begins with this byte twice and a space.

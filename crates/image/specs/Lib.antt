@@ -1,4 +1,0 @@
--- The image runner of document 01, from the text of an image to the text of its report.
-pub mod Joined
-pub mod Runner
-pub mod Cases

@@ -1,0 +1,2 @@
+-- Names interned one after the other.
+pub mod Interning

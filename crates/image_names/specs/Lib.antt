@@ -1,0 +1,2 @@
+-- The names of an image, interned.
+pub mod Named

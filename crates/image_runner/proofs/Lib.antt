@@ -1,0 +1,4 @@
+-- The laws of the image runner.
+pub mod Limits
+pub mod Parts
+pub mod Readings

@@ -1,0 +1,3 @@
+-- The image runner of document 01, from the text of an image to the text of its report.
+pub mod Runner
+pub mod Cases

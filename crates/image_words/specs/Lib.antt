@@ -1,0 +1,3 @@
+-- The image that a text says, and its words.
+pub mod Said
+pub mod Joined

@@ -1,0 +1,2 @@
+-- What is written of a rating.
+pub mod Rated
