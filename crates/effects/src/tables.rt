@@ -69,8 +69,9 @@ fn find(
         (Entry.At (getD (entriesOf (tablesOf (now (firsts .entry)) (now (ends .entry)) (now (entries .entry))) table)
         (slot kind subject (getD (now (firsts .entry)) table 0)) 0)) Entry.Missing ⌝ }
 {
-    let from = starts_at(ends, table);
+    // the slot first: the loop of a run then keeps more in registers (`bench/steps` tells)
     let s = slot(kind, subject, firsts[table]);
+    let from = starts_at(ends, table);
     if s < ends[table] - from {
         Entry::At(entries[(from + s) as usize])
     } else {

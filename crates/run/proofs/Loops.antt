@@ -5,7 +5,6 @@ use mathlib.Core.Bool.{true, _||_}
 use mathlib.Core.List.{List, []}
 use native.Mathlib.Omega.{arith}
 use native.Mathlib.Nat.{add-zero, sub-zero}
-use native.Mathlib.Numerals.{add-one}
 use lib.ListN.{length, getD}
 use lib.Dec.{eqb}
 use borrow.Author.Tests.{ne-eqb, lt-ltb}
@@ -186,27 +185,30 @@ module _ (s : State) (im : Image) (at : Position) (regs : List ℕ) (l : Lent) (
 
 -- ---- the loop's invariant
 
--- where the loop has come to: what is left of the run from here is what the whole run was. `lent` puts what the loop is lent into any buffers
+-- where the loop has come to, with `left` steps of the budget left: what is left of the run from here is what the whole run was. `lent` puts
+-- what the loop is lent into any buffers
 pub record Running (im : Image) (budget : ℕ) (regs₀ : List ℕ) (lent₀ : Lent → Lent) (at₀ : Position) (regs : List ℕ) (lent : Lent → Lent)
-    (at : Position) (steps : ℕ) : Type 0 where
-  pub left : (s : State) (l : Lent)
-      → finished im (budget - steps) steps (machineAt s at regs (lent l)) ≡ finished im budget 0 (machineAt s at₀ regs₀ (lent₀ l))
+    (at : Position) (left : ℕ) : Type 0 where
+  pub rest : (s : State) (l : Lent)
+      → finished im left (budget - left) (machineAt s at regs (lent l)) ≡ finished im budget 0 (machineAt s at₀ regs₀ (lent₀ l))
   pub here : at .pc < length (im .code)
   pub going : (l : Lent) → Going (length (im .code)) at (lent l)
-  pub within : steps ≤ budget
+  pub within : left ≤ budget
 
 pub running-first : (im : Image) (budget : ℕ) (regs : List ℕ) (lent : Lent → Lent) (at : Position)
-    → ((l : Lent) → Going (length (im .code)) at (lent l)) → Running im budget regs lent at regs lent at 0
-running-first im budget regs lent at g = record {
-  left = λ s l. ap (λ (b : ℕ). finished im b 0 (machineAt s at regs (lent l))) (sub-zero budget);
-  here = g unlent .here;
-  going = g;
-  within = omega arith;
-}
+    → ((l : Lent) → Going (length (im .code)) at (lent l)) → Running im budget regs lent at regs lent at budget
+running-first im budget regs lent at g =
+    let none-done : budget - budget ≡ 0 = omega arith in
+    record {
+      rest = λ s l. ap (λ (n : ℕ). finished im budget n (machineAt s at regs (lent l))) none-done;
+      here = g unlent .here;
+      going = g;
+      within = omega arith;
+    }
 
 module _ (im : Image) (ok : Loaded im) (budget : ℕ) (regs₀ : List ℕ) (lent₀ : Lent → Lent) (at₀ : Position) (regs : List ℕ) (lent : Lent → Lent)
-    (at : Position) (steps : ℕ)
-    (r : Running im budget regs₀ lent₀ at₀ regs lent at steps)
+    (at : Position) (left : ℕ)
+    (r : Running im budget regs₀ lent₀ at₀ regs lent at left)
   where
     abbrev now-at : State → Lent → Machine
     now-at s l = machineAt s at regs (lent l)
@@ -217,39 +219,41 @@ module _ (im : Image) (ok : Loaded im) (budget : ℕ) (regs₀ : List ℕ) (lent
     abbrev asks : Effect
     asks = wordEffect im regs (decodeOf (getD (im .code) (at .pc) 0))
 
-    module _ (more : steps < budget) where
-      left-more : (s : State) (l : Lent) → finished im (suc (budget - suc steps)) steps (now-at s l) ≡ whole s l
-      left-more s l =
-          let one : suc (budget - suc steps) ≡ budget - steps = omega arith in
-          rw one (r .left s l)
+    module _ (more : 0 < left) where
+      rest-more : (s : State) (l : Lent) → finished im (suc (left - 1)) (budget - left) (now-at s l) ≡ whole s l
+      rest-more s l =
+          let one : suc (left - 1) ≡ left = omega arith in
+          rw one (r .rest s l)
 
       pub running-next : (to : Position) (regs′ : List ℕ) (lent′ : Lent → Lent)
           → ((s : State) (l : Lent) → record { how = goes; machine = machineAt s to regs′ (lent′ l) } ≡ turn asks (now-at s l))
-          → Running im budget regs₀ lent₀ at₀ regs′ lent′ to (steps + 1)
+          → Running im budget regs₀ lent₀ at₀ regs′ lent′ to (left - 1)
       running-next to regs′ lent′ e =
+          let w = r .within in
+          let done : budget - (left - 1) ≡ suc (budget - left) = omega arith in
           record {
-            left = λ s l. rw (add-one steps) (sym (on s l .left) ∙ left-more s l);
+            rest = λ s l. rw done (sym (on s l .left) ∙ rest-more s l);
             here = on (blank 0 unlent .state) unlent .going .here;
             going = λ l. on (blank 0 l .state) l .going;
             within = omega arith;
           }
         where
-          on : (s : State) (l : Lent) → On s im at regs (lent l) ok (r .going l) (budget - suc steps) steps (machineAt s to regs′ (lent′ l))
-          on s l = to-next s im at regs (lent l) ok (r .going l) (budget - suc steps) steps _ (e s l)
+          on : (s : State) (l : Lent) → On s im at regs (lent l) ok (r .going l) (left - 1) (budget - left) (machineAt s to regs′ (lent′ l))
+          on s l = to-next s im at regs (lent l) ok (r .going l) (left - 1) (budget - left) _ (e s l)
 
       module _ (s : State) (l : Lent) where
         pub halted-here : (m′ : Machine) → record { how = halts; machine = m′ } ≡ turn asks (now-at s l)
-            → record { ending = 0; steps = steps + 1; machine = m′ } ≡ whole s l
-        halted-here m′ e = to-halt s im at regs (lent l) ok (r .going l) (budget - suc steps) steps m′ e ∙ left-more s l
+            → record { ending = 0; steps = (budget - left) + 1; machine = m′ } ≡ whole s l
+        halted-here m′ e = to-halt s im at regs (lent l) ok (r .going l) (left - 1) (budget - left) m′ e ∙ rest-more s l
 
         pub stopped-here : (k : ℕ) (m′ : Machine) → record { how = stops k; machine = m′ } ≡ turn asks (now-at s l)
-            → record { ending = k; steps = steps; machine = m′ } ≡ whole s l
-        stopped-here k m′ e = to-stop s im at regs (lent l) ok (r .going l) (budget - suc steps) steps k m′ e ∙ left-more s l
+            → record { ending = k; steps = budget - left; machine = m′ } ≡ whole s l
+        stopped-here k m′ e = to-stop s im at regs (lent l) ok (r .going l) (left - 1) (budget - left) k m′ e ∙ rest-more s l
 
-    pub spent-here : budget ≤ steps → (s : State) (l : Lent) → record { ending = 5; steps = steps; machine = now-at s l } ≡ whole s l
+    pub spent-here : left ≤ 0 → (s : State) (l : Lent) → record { ending = 5; steps = budget; machine = now-at s l } ≡ whole s l
     spent-here h s l =
-        let none-left : budget - steps ≡ 0 = let w = r .within in omega arith in
-        to-budget s im at regs (lent l) ok (r .going l) steps ∙ (rw none-left at (r .left s l))
+        let none-left : left ≡ 0 = omega arith in
+        to-budget s im at regs (lent l) ok (r .going l) budget ∙ (rw (none-left, sub-zero budget) at (r .rest s l))
 
     pub asks-writable : Writable asks
     asks-writable = here-writable (blank 0 unlent .state) im at regs (lent unlent) ok (r .going unlent)

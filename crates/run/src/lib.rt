@@ -39,7 +39,8 @@ pub struct Ran {
     pub state: State,
 }
 
-// The loop, an instruction a turn. It does not test its pc: every turn leaves it inside the code.
+// The loop, an instruction a turn. It does not test its pc: every turn leaves it inside the code. It counts down, for speed: counted up, the
+// compiler keeps less in registers (`bench/steps` tells).
 fn go(
     from: Position,
     budget: Steps,
@@ -58,8 +59,8 @@ fn go(
     let end = image[0] as usize;
     let code = &image[HEADER..end];
     let mut at = from;
-    let mut steps: Steps = 0;
-    while steps < budget {
+    let mut left = budget;
+    while left > 0 {
         let pc = at.pc;
         let effect = effects::word_effect(code[pc], regs, image);
         match apply(effect, at, regs, frames, heap) {
@@ -67,6 +68,7 @@ fn go(
                 at = to;
             }
             Turn::Halt => {
+                let steps = budget - left;
                 let done = steps + 1;
                 return Ended {
                     ending: End::HALT,
@@ -75,15 +77,16 @@ fn go(
                 };
             }
             Turn::Stop(ending) => {
+                let steps = budget - left;
                 return Ended { ending, at, steps };
             }
         }
-        steps += 1;
+        left -= 1;
     }
     Ended {
         ending: End::BUDGET,
         at,
-        steps,
+        steps: budget,
     }
 }
 

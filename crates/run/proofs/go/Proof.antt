@@ -1,6 +1,5 @@
 -- `run::go` meets its contract. Assumes nothing.
 use mathlib.Core.Path.{_≡_, refl, _∙_}
-use Prim.Native.Nat.{_-_}
 use lib.ListN.{length}
 use native.Mathlib.Omega.{arith}
 use Rattle.program.specs.Words.{cut}
@@ -11,12 +10,12 @@ use Rattle.run.proofs.go.Statement.{statement}
 use Rattle.run.proofs.go.Tie as tie
 
 abbrev Inv-loop : tie.InvT-loop
-Inv-loop budget regs₀ image frames₀ heap₀ end code at₀ steps₀ regs frames heap at steps = Running (cut image) budget regs₀
-    (λ (l : Lent). lendRun frames₀ heap₀ l) at₀ regs (λ (l : Lent). lendRun frames heap l) at steps
+Inv-loop budget regs₀ image frames₀ heap₀ end code at₀ left₀ regs frames heap at left = Running (cut image) budget regs₀
+    (λ (l : Lent). lendRun frames₀ heap₀ l) at₀ regs (λ (l : Lent). lendRun frames heap l) at left
     × (length frames ≡ length frames₀) × (length heap ≡ length heap₀)
 
 abbrev μ-loop : tie.MeasureT-loop
-μ-loop budget regs₀ image frames₀ heap₀ end code at₀ steps₀ regs frames heap at steps = budget - steps
+μ-loop budget regs₀ image frames₀ heap₀ end code at₀ left₀ regs frames heap at left = left
 
 -- ---- places: the start of the loop, and from the end of a turn back
 
@@ -63,10 +62,16 @@ apply-requires c κs =
       λ l. loop .loop .inv .0 .going l .fitting,
     )
 
+sub-steps : tie.Need-sub-steps Inv-loop μ-loop
+sub-steps c =
+    let loop = test-of (word-of (c .before .before)) .before in
+    loop .loop .inv .0 .within
+
 add-done : tie.Need-add-done Inv-loop μ-loop
 add-done c =
     let loop-test = test-of (word-of (c .before .before)) in
-    omega (arith, loop-test .loop-test .taken, start-of (loop-test .before) .fits .budget)
+    let start = start-of (loop-test .before) in
+    omega (arith, loop-test .loop-test .taken, start .fits .budget)
 
 returns : tie.Need-returns Inv-loop μ-loop
 returns c =
@@ -95,10 +100,13 @@ returns-2 c =
       ending .ending .given .1,
     ) at (apply .apply .ensures s l))
 
-add-steps : tie.Need-add-steps Inv-loop μ-loop
-add-steps c =
-    let loop-test = test-of (word-of (c .before .before .before)) in
-    omega (arith, loop-test .loop-test .taken, start-of (loop-test .before) .fits .budget)
+sub-steps-2 : tie.Need-sub-steps-2 Inv-loop μ-loop
+sub-steps-2 c =
+    let loop = test-of (word-of (c .before .before .before)) .before in
+    loop .loop .inv .0 .within
+
+sub-left : tie.Need-sub-left Inv-loop μ-loop
+sub-left c = omega (arith, test-of (word-of (c .before .before .before)) .loop-test .taken)
 
 loop-less : tie.Need-loop-less Inv-loop μ-loop
 loop-less c = omega (arith, test-of (word-of (c .before .before .before)) .loop-test .taken)
@@ -156,15 +164,17 @@ go-spec =
     apply-requires
     (λ c. search needs)
     (λ c. search needs)
+    sub-steps
     add-done
     (λ c. search needs)
     (λ c. search needs)
     returns
     (λ c. search needs)
+    sub-steps-2
     (λ c. search needs)
     (λ c. search needs)
     returns-2
-    add-steps
+    sub-left
     loop-less
     loop-again
     same-length-5
