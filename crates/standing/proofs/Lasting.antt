@@ -11,7 +11,8 @@ use lib.Dec.{ltb, eqb, lit<, lit≤}
 use borrow.Author.Tests.{ltb-true}
 use Rattle.memory.proofs.Over.{length-write}
 use Rattle.memory.proofs.Tests.{both}
-use Rattle.str_table.proofs.Inserting.{no-slots-sound, most-slots}
+use Rattle.str_table.proofs.Counting.{most-slots}
+use Rattle.str_table.proofs.Inserting.{no-slots-sound}
 use Rattle.gc.specs.Pages.{gapOf, block, fitted, allocated, holds}
 use Rattle.program.specs.Image.{Image, failing}
 use Rattle.vm.specs.Core.{Core, Sizes, used, short, setRegs, setPc, setFrames, setMemory, setPages, setBytes}

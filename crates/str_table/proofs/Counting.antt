@@ -7,7 +7,7 @@ use native.Mathlib.Omega.{arith}
 use native.Mathlib.Numerals.{add-one}
 use lib.ListN.{length, getD, drop, drop-of-length-le}
 use lib.Seq.{drop-cons}
-use lib.Dec.{leb, eqb}
+use lib.Dec.{leb, eqb, lit≤}
 use borrow.Author.Tests.{eq-eqb, ne-eqb, eqb-true, leb-true}
 use Rattle.memory.proofs.Tests.{both, leb-minus}
 use Rattle.string.specs.Payload.{reaches}
@@ -79,25 +79,33 @@ module _ (base n : ℕ) (slots : List ℕ) where
 
 -- ---- what a sound table is
 
--- a slot count is a power of two
+-- what holds of each number of slots that can be lent
+pub slot-cases : (P : ℕ → Type 0) → P 64 → P 128 → P 256 → P 512 → P 1024 → P 2048 → P 4096 → (n : ℕ) → slotCount n ≡ true → P n
+unfolding slotCount
+slot-cases P a b c d e f g n h =
+    at 64 a _ (at 128 b _ (at 256 c _ (at 512 d _ (at 1024 e _ (at 2048 f _ (λ q. rw (eqb-true n 4096 q) g)))))) h
+  where
+    at : (m : ℕ) → P m → (rest : Bool) → (rest ≡ true → P n) → (eqb n m || rest) ≡ true → P n
+    at m here rest there q = go (eqb n m) refl q
+      where
+        go : (t : Bool) → eqb n m ≡ t → (t || rest) ≡ true → P n
+        go true r u = rw (eqb-true n m r) here
+        go false r u = there u
+
+-- it is a power of two
 pub record Power (n : ℕ) : Type 0 where
   pub exponent : ℕ
   pub is : n ≡ 2 ^ exponent
 
-pub slot-power : (n : ℕ) → slotCount n ≡ true → Power n
-unfolding slotCount
-slot-power n e = at 64 6 refl _
-    (λ a. at 128 7 refl _ (λ b. at 256 8 refl _ (λ c. at 512 9 refl _ (λ d. at 1024 10 refl _ (λ f. at 2048 11 refl _ (λ g. last g) f) d) c) b) a) e
-  where
-    at : (m k : ℕ) → m ≡ 2 ^ k → (rest : Bool) → (rest ≡ true → Power n) → (eqb n m || rest) ≡ true → Power n
-    at m k p rest f e = go (eqb n m) refl e
-      where
-        go : (b : Bool) → eqb n m ≡ b → (b || rest) ≡ true → Power n
-        go true q e = record { exponent = k; is = eqb-true n m q ∙ p }
-        go false q e = f e
+abbrev power : (k : ℕ) → Power (2 ^ k)
+power k = record { exponent = k; is = refl }
 
-    last : eqb n 4096 ≡ true → Power n
-    last e = record { exponent = 12; is = eqb-true n 4096 e }
+pub slot-power : (n : ℕ) → slotCount n ≡ true → Power n
+slot-power = slot-cases Power (power 6) (power 7) (power 8) (power 9) (power 10) (power 11) (power 12)
+
+-- and at most 4,096
+pub most-slots : (n : ℕ) → slotCount n ≡ true → n ≤ 4096
+most-slots = slot-cases (λ n. n ≤ 4096) (lit≤ tt) (lit≤ tt) (lit≤ tt) (lit≤ tt) (lit≤ tt) (lit≤ tt) (lit≤ tt)
 
 pub active-within : (active lent : ℕ) → activeOk active lent ≡ true → active ≤ lent
 unfolding activeOk

@@ -5,7 +5,7 @@ use mathlib.Core.Bool.{Bool, true, false, cond, _||_}
 use mathlib.Core.List.{List, [], _∷_}
 use native.Mathlib.Omega.{arith}
 use lib.ListN.{length, getD, set, replicate, length-replicate}
-use lib.Dec.{leb, ltb, eqb, lit≤}
+use lib.Dec.{leb, ltb, eqb}
 use borrow.Author.Tests.{eq-eqb, ne-eqb, eqb-true, eqb-false, leb-true, le-leb}
 use Rattle.memory.proofs.Tests.{both}
 use Rattle.str_table.specs.declared.Probe.{Probe}
@@ -14,7 +14,7 @@ use Rattle.string.specs.Payload.{reaches}
 use Rattle.str_table.specs.Table.{home, probe, lookup, never, filled, placed}
 use Rattle.str_table.specs.Grow.{storedHash, movedOne, moved, roomOf, widened, withRoom}
 use Rattle.str_table.specs.Sound.{slotCount, filledIn, headersIn, countOk, slotsOk}
-use Rattle.str_table.proofs.Counting.{slot-power}
+use Rattle.str_table.proofs.Counting.{slot-cases, slot-power}
 use Rattle.str_table.proofs.NeverFull.{empty-slot, meets}
 use Rattle.str_table.proofs.Probes.{home-lt, length-placed}
 use Rattle.str_table.proofs.Moves.{length-withRoom, room-holds}
@@ -161,22 +161,6 @@ slots-sound-more base n m len slots le f =
     record { active = f .active; headers = headers-more base n m slots le (f .headers); count = f .count; half = f .half }
 
 -- ---- room for one name more
-
--- what holds of each number of slots that can be lent
-slot-cases : (P : ℕ → Type 0) → P 64 → P 128 → P 256 → P 512 → P 1024 → P 2048 → P 4096 → (n : ℕ) → slotCount n ≡ true → P n
-unfolding slotCount
-slot-cases P a b c d e f g n h =
-    at 64 a _ (at 128 b _ (at 256 c _ (at 512 d _ (at 1024 e _ (at 2048 f _ (λ q. rw (eqb-true n 4096 q) g)))))) h
-  where
-    at : (m : ℕ) → P m → (rest : Bool) → (rest ≡ true → P n) → (eqb n m || rest) ≡ true → P n
-    at m here rest there q = go (eqb n m) refl q
-      where
-        go : (t : Bool) → eqb n m ≡ t → (t || rest) ≡ true → P n
-        go true r u = rw (eqb-true n m r) here
-        go false r u = there u
-
-pub most-slots : (n : ℕ) → slotCount n ≡ true → n ≤ 4096
-most-slots = slot-cases (λ n. n ≤ 4096) (lit≤ tt) (lit≤ tt) (lit≤ tt) (lit≤ tt) (lit≤ tt) (lit≤ tt) (lit≤ tt)
 
 -- twice as many slots, while they can be lent
 doubled-count : (n : ℕ) → slotCount n ≡ true → n * 2 ≤ 4096 → slotCount (n * 2) ≡ true
