@@ -123,8 +123,19 @@ fn host_calls() {
     said(&mut out, "run after reset", both.run(&code, 10));
     assert_eq!(both.agreed, 32 + 4);
 
+    // Ret; Halt. 8 is the model's alone, and what follows goes on from before
+    let reset = both.model.clone();
+    both.call(&[], &Call::SetPc(0));
+    said(&mut out, "run that returns from the root", both.run(&[57, 59], 10));
+    registers(&mut out, &both.model);
+    assert_eq!(both.agreed, 32 + 4 + 2);
+    both.call(&[], &Call::SetPc(0));
+    said(&mut out, "run that returns at depth 0", both.run(&[57, 59], 10));
+    registers(&mut out, &both.model);
+    assert!(both.original.is_none());
+
     let refused = |out: &mut String, label: &str, change: &dyn Fn(&mut Model), image: Image| {
-        let mut model = both.model.clone();
+        let mut model = reset.clone();
         change(&mut model);
         said(out, label, model.call(&[image], &Call::Run { image: 0, budget: 1 }));
     };

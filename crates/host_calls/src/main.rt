@@ -1,4 +1,4 @@
-// Each of the machine's calls, with a refused one of each number from 9 to 18, printed: a label, and what was answered.
+// Each of the machine's calls, with a refused one of each number from 9 to 18 and the ends 0, 1, 5 and 8, printed: a label, and what was answered.
 use anomaly::End;
 use anomaly::Steps;
 use libc::STDOUT_FILENO;
@@ -123,6 +123,29 @@ fn runs(state: State, frames: &mut [u64; 4], heap: &mut [u8; 8192]) -> State {
     let s = said(b"reset", s.reset(frames));
     registers(s);
     run(b"run after reset", s, 10, &code, frames, heap)
+}
+
+// Ret; Halt, run twice from its beginning: from the root to the last Halt, which leaves depth 0; then at depth 0.
+fn returns(state: State, frames: &mut [u64; 4], heap: &mut [u8; 8192]) {
+    let code: [u64; 11] = [11, 11, 11, 11, 11, 11, 11, 11, 11, 57, 59];
+    let s = run(
+        b"run that returns from the root",
+        state.set_pc(0),
+        10,
+        &code,
+        frames,
+        heap,
+    );
+    registers(s);
+    let s = run(
+        b"run that returns at depth 0",
+        s.set_pc(0),
+        10,
+        &code,
+        frames,
+        heap,
+    );
+    registers(s);
 }
 
 // A run of one word and a Halt.
@@ -282,6 +305,7 @@ fn main() {
     registers(s);
     let s = said(b"set register 32", s.set_register(32, 1));
     let s = runs(s, &mut frames, &mut heap);
+    returns(s, &mut frames, &mut heap);
     refused_runs(s, &mut frames, &mut heap);
     let s = blocks(s, &mut heap);
     let s = names(s, &mut heap, &mut slots, &mut spare);
