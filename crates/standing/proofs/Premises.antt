@@ -6,7 +6,7 @@ use Prim.Native.Nat.{ℕ, _+_, _^_}
 use lib.ListN.{replicate}
 use Rattle.memory.specs.Bytes.{bytesOf}
 use Rattle.memory.specs.Lists.{over, write}
-use Rattle.string.specs.Sound as Table
+use Rattle.str_table.specs.Sound as Table
 use Rattle.gc.specs.Metadata.{headerOf}
 use Rattle.gc.specs.Pages as Pages
 use Rattle.gc.specs.Lent.{pagesOf, numbersOf}
@@ -15,7 +15,7 @@ use Rattle.op.specs.Decode as Op
 use Rattle.op.specs.Decode.{decodedBy, decodeOf}
 use Rattle.op.specs.Reach.{checkOf}
 use Rattle.program.specs.Image.{Image, Tables, counts, rising, tablesOk, imageOk, endsInHalt, below, wordTest, wordTests, imageTests, failing}
-use Rattle.program.specs.Effect.{effectOf, wordEffect}
+use Rattle.effects.specs.Effect.{effectOf, wordEffect}
 use Rattle.vm.specs.Core.{used, needs, short, setPc, setFrames, setPages, setBytes}
 use Rattle.vm.specs.Run.{apply, fetched, asked, unless, limited, step, after, go, root, entered, stored}
 use Rattle.vm.specs.Names as Names
