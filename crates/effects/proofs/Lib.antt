@@ -1,2 +1,3 @@
--- The laws of what an instruction asks for.
+-- The laws of what an instruction asks for; `Inside`, that it stays inside the image, is for callers.
 pub mod Asks
+pub mod Inside

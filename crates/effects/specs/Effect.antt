@@ -13,10 +13,7 @@ use Rattle.value.specs.Int.{signed, quotientOf, remainderOf}
 use Rattle.value.specs.Double.{double, on}
 use Rattle.value.specs.Cast.{truth, bit, castToInt, castToDouble, castToBool}
 use Rattle.op.specs.declared.Op.{Op}
-use Rattle.op.specs.declared.Op.the-variants.{IAdd, IAddI, ISub, ISubI, IMul, IMulI, IDiv, IDivI, IMod, IModI, IAnd, IAndI, ILt, IGt, IEq}
-use Rattle.op.specs.declared.Op.the-variants.{IEqI, IGtI, ILtI, DAdd, DSub, DMul, DDiv, DLt, DGt, BEq, SEq, Mov, LoadI, LoadG, Jmp, JmpT}
-use Rattle.op.specs.declared.Op.the-variants.{JmpF, JmpEqI, JmpNeI, JmpSEq, JmpSNe, Switch, Lookup, Tail, Call, CastToInt, CastToDouble}
-use Rattle.op.specs.declared.Op.the-variants.{CastToBool, Alloc, Store, Load, AddrOf, Ret, Assert, Halt, Nop}
+use Rattle.op.specs.declared.Op.the-variants as op
 use Rattle.op.specs.declared.Decoded.{Decoded}
 use Rattle.effects.specs.declared.Effect.{Effect}
 use Rattle.effects.specs.declared.Effect.the-variants as effect
@@ -62,66 +59,66 @@ unfoldable pub switched : List ℕ → ℕ → Effect
 switched targets s = cond (ltb s (length targets)) (effect.Goto (getD targets s 0)) effect.Skip
 
 unfoldable pub effectOf : Image → List ℕ → Op → Effect
-effectOf im r (IAdd dst lhs rhs) = effect.Set dst (low (getD r lhs 0 + getD r rhs 0))
-effectOf im r (IAddI dst lhs imm) = effect.Set dst (low (getD r lhs 0 + imm))
-effectOf im r (ISub dst lhs rhs) = effect.Set dst (minus (getD r lhs 0) (getD r rhs 0))
-effectOf im r (ISubI dst lhs imm) = effect.Set dst (minus (getD r lhs 0) imm)
-effectOf im r (IMul dst lhs rhs) = effect.Set dst (low (getD r lhs 0 * getD r rhs 0))
-effectOf im r (IMulI dst lhs imm) = effect.Set dst (low (getD r lhs 0 * imm))
-effectOf im r (IDiv dst lhs rhs) = divided dst (quotientOf (getD r lhs 0) (getD r rhs 0))
-effectOf im r (IDivI dst lhs imm) = divided dst (quotientOf (getD r lhs 0) imm)
-effectOf im r (IMod dst lhs rhs) = divided dst (remainderOf (getD r lhs 0) (getD r rhs 0))
-effectOf im r (IModI dst lhs imm) = divided dst (remainderOf (getD r lhs 0) imm)
-effectOf im r (IAnd dst lhs rhs) = effect.Set dst (bitAnd (getD r lhs 0) (getD r rhs 0))
-effectOf im r (IAndI dst lhs imm) = effect.Set dst (bitAnd (getD r lhs 0) imm)
-effectOf im r (ILt dst lhs rhs) = effect.Set dst (less (getD r lhs 0) (getD r rhs 0))
-effectOf im r (IGt dst lhs rhs) = effect.Set dst (less (getD r rhs 0) (getD r lhs 0))
-effectOf im r (IEq dst lhs rhs) = effect.Set dst (bit (eqb (getD r lhs 0) (getD r rhs 0)))
-effectOf im r (IEqI dst lhs imm) = effect.Set dst (bit (eqb (getD r lhs 0) imm))
-effectOf im r (IGtI dst lhs imm) = effect.Set dst (less imm (getD r lhs 0))
-effectOf im r (ILtI dst lhs imm) = effect.Set dst (less (getD r lhs 0) imm)
-effectOf im r (DAdd dst lhs rhs) = effect.Set dst (on Ieee.add (getD r lhs 0) (getD r rhs 0))
-effectOf im r (DSub dst lhs rhs) = effect.Set dst (on Ieee.sub (getD r lhs 0) (getD r rhs 0))
-effectOf im r (DMul dst lhs rhs) = effect.Set dst (on Ieee.mul (getD r lhs 0) (getD r rhs 0))
-effectOf im r (DDiv dst lhs rhs) = effect.Set dst (on Ieee.div (getD r lhs 0) (getD r rhs 0))
-effectOf im r (DLt dst lhs rhs) = effect.Set dst (lessDouble (getD r lhs 0) (getD r rhs 0))
-effectOf im r (DGt dst lhs rhs) = effect.Set dst (lessDouble (getD r rhs 0) (getD r lhs 0))
-effectOf im r (BEq dst lhs rhs) = effect.Set dst (bit (Bool·beq (truth (getD r lhs 0)) (truth (getD r rhs 0))))
-effectOf im r (SEq dst lhs rhs) = effect.Set dst (bit (eqb (getD r lhs 0) (getD r rhs 0)))
-effectOf im r (Mov dst src) = effect.Set dst (getD r src 0)
-effectOf im r (LoadI dst value) = effect.Set dst value
-effectOf im r (LoadG dst idx) = within idx (length (im .globals)) (effect.Set dst (getD (im .globals) idx 0))
-effectOf im r (Jmp target) = effect.Goto target
-effectOf im r (JmpT c target) = jumpIf (truth (getD r c 0)) target
-effectOf im r (JmpF c target) = jumpIf (not (truth (getD r c 0))) target
-effectOf im r (JmpEqI lhs imm target) = jumpIf (eqb (getD r lhs 0) imm) target
-effectOf im r (JmpNeI lhs imm target) = jumpIf (not (eqb (getD r lhs 0) imm)) target
-effectOf im r (JmpSEq lhs rhs target) = jumpIf (eqb (getD r lhs 0) (getD r rhs 0)) target
-effectOf im r (JmpSNe lhs rhs target) = jumpIf (not (eqb (getD r lhs 0) (getD r rhs 0))) target
-effectOf im r (Switch kind subject table) =
+effectOf im r (op.IAdd dst lhs rhs) = effect.Set dst (low (getD r lhs 0 + getD r rhs 0))
+effectOf im r (op.IAddI dst lhs imm) = effect.Set dst (low (getD r lhs 0 + imm))
+effectOf im r (op.ISub dst lhs rhs) = effect.Set dst (minus (getD r lhs 0) (getD r rhs 0))
+effectOf im r (op.ISubI dst lhs imm) = effect.Set dst (minus (getD r lhs 0) imm)
+effectOf im r (op.IMul dst lhs rhs) = effect.Set dst (low (getD r lhs 0 * getD r rhs 0))
+effectOf im r (op.IMulI dst lhs imm) = effect.Set dst (low (getD r lhs 0 * imm))
+effectOf im r (op.IDiv dst lhs rhs) = divided dst (quotientOf (getD r lhs 0) (getD r rhs 0))
+effectOf im r (op.IDivI dst lhs imm) = divided dst (quotientOf (getD r lhs 0) imm)
+effectOf im r (op.IMod dst lhs rhs) = divided dst (remainderOf (getD r lhs 0) (getD r rhs 0))
+effectOf im r (op.IModI dst lhs imm) = divided dst (remainderOf (getD r lhs 0) imm)
+effectOf im r (op.IAnd dst lhs rhs) = effect.Set dst (bitAnd (getD r lhs 0) (getD r rhs 0))
+effectOf im r (op.IAndI dst lhs imm) = effect.Set dst (bitAnd (getD r lhs 0) imm)
+effectOf im r (op.ILt dst lhs rhs) = effect.Set dst (less (getD r lhs 0) (getD r rhs 0))
+effectOf im r (op.IGt dst lhs rhs) = effect.Set dst (less (getD r rhs 0) (getD r lhs 0))
+effectOf im r (op.IEq dst lhs rhs) = effect.Set dst (bit (eqb (getD r lhs 0) (getD r rhs 0)))
+effectOf im r (op.IEqI dst lhs imm) = effect.Set dst (bit (eqb (getD r lhs 0) imm))
+effectOf im r (op.IGtI dst lhs imm) = effect.Set dst (less imm (getD r lhs 0))
+effectOf im r (op.ILtI dst lhs imm) = effect.Set dst (less (getD r lhs 0) imm)
+effectOf im r (op.DAdd dst lhs rhs) = effect.Set dst (on Ieee.add (getD r lhs 0) (getD r rhs 0))
+effectOf im r (op.DSub dst lhs rhs) = effect.Set dst (on Ieee.sub (getD r lhs 0) (getD r rhs 0))
+effectOf im r (op.DMul dst lhs rhs) = effect.Set dst (on Ieee.mul (getD r lhs 0) (getD r rhs 0))
+effectOf im r (op.DDiv dst lhs rhs) = effect.Set dst (on Ieee.div (getD r lhs 0) (getD r rhs 0))
+effectOf im r (op.DLt dst lhs rhs) = effect.Set dst (lessDouble (getD r lhs 0) (getD r rhs 0))
+effectOf im r (op.DGt dst lhs rhs) = effect.Set dst (lessDouble (getD r rhs 0) (getD r lhs 0))
+effectOf im r (op.BEq dst lhs rhs) = effect.Set dst (bit (Bool·beq (truth (getD r lhs 0)) (truth (getD r rhs 0))))
+effectOf im r (op.SEq dst lhs rhs) = effect.Set dst (bit (eqb (getD r lhs 0) (getD r rhs 0)))
+effectOf im r (op.Mov dst src) = effect.Set dst (getD r src 0)
+effectOf im r (op.LoadI dst value) = effect.Set dst value
+effectOf im r (op.LoadG dst idx) = within idx (length (im .globals)) (effect.Set dst (getD (im .globals) idx 0))
+effectOf im r (op.Jmp target) = effect.Goto target
+effectOf im r (op.JmpT c target) = jumpIf (truth (getD r c 0)) target
+effectOf im r (op.JmpF c target) = jumpIf (not (truth (getD r c 0))) target
+effectOf im r (op.JmpEqI lhs imm target) = jumpIf (eqb (getD r lhs 0) imm) target
+effectOf im r (op.JmpNeI lhs imm target) = jumpIf (not (eqb (getD r lhs 0) imm)) target
+effectOf im r (op.JmpSEq lhs rhs target) = jumpIf (eqb (getD r lhs 0) (getD r rhs 0)) target
+effectOf im r (op.JmpSNe lhs rhs target) = jumpIf (not (eqb (getD r lhs 0) (getD r rhs 0))) target
+effectOf im r (op.Switch kind subject table) =
     within table (length (im .switches .firsts))
     (switched (entriesOf (im .switches) table) (slot kind (getD r subject 0) (getD (im .switches .firsts) table 0)))
-effectOf im r (Lookup kind dst subject table) =
+effectOf im r (op.Lookup kind dst subject table) =
     within table (length (im .lookups .firsts))
     (effect.Set dst
     (getD (entriesOf (im .lookups) table)
     (slot kind (getD r subject 0) (getD (im .lookups .firsts) table 0))
     (getD (im .defaults) table 0)))
-effectOf im r (Tail func) = effect.Goto func
-effectOf im r (Call func) = effect.Call func
-effectOf im r (CastToInt dst src) = effect.Set dst (castToInt (getD r src 0))
-effectOf im r (CastToDouble dst src) = effect.Set dst (castToDouble (getD r src 0))
-effectOf im r (CastToBool dst src) = effect.Set dst (castToBool (getD r src 0))
-effectOf im r (Alloc dst kind size align) = effect.Alloc dst kind size
-effectOf im r (Store base offset src) = effect.Store (getD r base 0) offset (getD r src 0)
-effectOf im r (Load dst base offset) = effect.Load dst (getD r base 0) offset
-effectOf im r (AddrOf dst base offset) = effect.Set dst (low (getD r base 0 + offset))
-effectOf im r Ret = effect.Ret
-effectOf im r (Assert c) = cond (truth (getD r c 0)) effect.Skip (effect.Stop 4)
-effectOf im r Halt = effect.Halt
-effectOf im r Nop = effect.Skip
+effectOf im r (op.Tail func) = effect.Goto func
+effectOf im r (op.Call func) = effect.Call func
+effectOf im r (op.CastToInt dst src) = effect.Set dst (castToInt (getD r src 0))
+effectOf im r (op.CastToDouble dst src) = effect.Set dst (castToDouble (getD r src 0))
+effectOf im r (op.CastToBool dst src) = effect.Set dst (castToBool (getD r src 0))
+effectOf im r (op.Alloc dst kind size align) = effect.Alloc dst kind size
+effectOf im r (op.Store base offset src) = effect.Store (getD r base 0) offset (getD r src 0)
+effectOf im r (op.Load dst base offset) = effect.Load dst (getD r base 0) offset
+effectOf im r (op.AddrOf dst base offset) = effect.Set dst (low (getD r base 0 + offset))
+effectOf im r op.Ret = effect.Ret
+effectOf im r (op.Assert c) = cond (truth (getD r c 0)) effect.Skip (effect.Stop 4)
+effectOf im r op.Halt = effect.Halt
+effectOf im r op.Nop = effect.Skip
 
 -- the effect of a decoded word. One that is no instruction would stop with its refusal; the loader has refused it before
 unfoldable pub wordEffect : Image → List ℕ → Decoded → Effect
-wordEffect im r (Decoded.Op op) = effectOf im r op
+wordEffect im r (Decoded.Op o) = effectOf im r o
 wordEffect im r (Decoded.Refused k) = effect.Stop k

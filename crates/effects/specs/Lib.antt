@@ -1,2 +1,3 @@
--- The meaning of the instructions.
+-- The meaning of the instructions, and cases of it.
 pub mod Effect
+pub mod Cases

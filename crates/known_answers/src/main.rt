@@ -135,7 +135,7 @@ fn names() {
 
 // 0 for an instruction, or the refusal's number.
 fn decoded(w: u64) -> u64 {
-    op::decode(w).refusal()
+    decoder::decode(w).refusal()
 }
 
 fn words() {

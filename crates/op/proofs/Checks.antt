@@ -6,33 +6,33 @@ use native.Mathlib.Omega.{arith}
 use lib.Dec.{eqb, ltb}
 use lib.Bits.{bitAnd}
 use borrow.Author.Tests.{ltb-true, ltb-false, ne-eqb}
-use Rattle.op.specs.Layout.{Parts, partsOf}
+use Rattle.op.specs.Layout.{Parts, partsOf, Reach}
 use Rattle.op.specs.Decode.{Row, row, absent, rows, rowOf, checkedOf, decodedBy, decodeOf}
-use Rattle.op.specs.Reach.{reachOf, insideOf, within, judged, checkOf}
+use Rattle.op.specs.Reach.{insideOf, there, reachOf, judged, checkOf}
 use Rattle.op.specs.Masks.{bits, allAligned, maskOf, maskOfRow, restOf}
 use Rattle.op.specs.declared.Op.{Op}
 use Rattle.op.specs.declared.Counts.{Counts}
 use Rattle.op.specs.declared.Checked.{Checked}
 use Rattle.op.proofs.Masks.{by-mask}
-use Rattle.op.proofs.Rows.{run, absent-above}
+use Rattle.op.proofs.Rows.{run, onwards}
 
 -- ---- By the mask ----
 
-by-tests : (n : Counts) (fits exact : Bool) (op : Op) →
-    judged n (checkedOf (fits && exact) op) ≡ cond fits (cond exact (within n (reachOf op)) (Checked.Refused 13)) (Checked.Refused 13)
-by-tests n true true op = refl
-by-tests n true false op = refl
-by-tests n false exact op = refl
+by-tests : (n : Counts) (reach : Reach) (p : Parts) (fits exact : Bool) (op : Op) →
+    judged n reach p (checkedOf (fits && exact) op) ≡ cond fits (cond exact (there n reach p) (Checked.Refused 13)) (Checked.Refused 13)
+by-tests n reach p true true op = refl
+by-tests n reach p true false op = refl
+by-tests n reach p false exact op = refl
 
 abbrev answer : ℕ → Row → Counts → ℕ → Checked
 answer mask r n w = cond (eqb mask 1) (Checked.Refused 12) (cond (eqb (bitAnd w mask) 0) (restOf r n (partsOf w)) (Checked.Refused 13))
 
-by-row : (r : Row) (n : Counts) (w : ℕ) → judged n (decodedBy r (partsOf w)) ≡ answer (maskOfRow r) r n w
+by-row : (r : Row) (n : Counts) (w : ℕ) → judged n (reachOf r) (partsOf w) (decodedBy r (partsOf w)) ≡ answer (maskOfRow r) r n w
 unfolding decodedBy maskOfRow restOf
-by-row (row a b c d op) n w =
+by-row (row a b c d reach make) n w =
     let mask : ℕ = maskOf (bits a) (bits b) (bits c) (bits d) in
     let carried : eqb mask 1 ≡ false = ne-eqb mask 1 (λ e. omega arith) in
-    rw (by-mask a b c d w, carried) (by-tests n (eqb (bitAnd w mask) 0) (allAligned a b c d (partsOf w)) (op (partsOf w)))
+    rw (by-mask a b c d w, carried) (by-tests n reach (partsOf w) (eqb (bitAnd w mask) 0) (allAligned a b c d (partsOf w)) (make (partsOf w)))
 by-row absent n w = refl
 
 pub checked-by : (mask : ℕ) (n : Counts) (w : ℕ) → mask ≡ maskOfRow (rowOf (w % 256)) → answer mask (rowOf (w % 256)) n w ≡ checkOf n w
@@ -62,11 +62,8 @@ module _ (k : ℕ) (n : Counts) (p : Parts) where
 
   pub no-rest-above : 40 ≤ k → (k ≡ 53 → ⊥) → Checked.Fine ≡ restOf (rowOf k) n p
   unfolding rows restOf
-  no-rest-above low other = go (ltb k 53) (ltb k 61) refl refl
+  no-rest-above low other = go (ltb k 53) refl
     where
-      go : (first second : Bool) → ltb k 53 ≡ first → ltb k 61 ≡ second → Checked.Fine ≡ restOf (rowOf k) n p
-      go true second h g = alike _ (run restOf (λ n p. Checked.Fine) 40 13 refl k low (ltb-true k 53 h))
-      go false true h g =
-          let above = ltb-false k 53 h in
-          alike _ (run restOf (λ n p. Checked.Fine) 54 7 refl k (omega arith) (ltb-true k 61 g))
-      go false false h g = alike _ (ap restOf (absent-above k (ltb-false k 61 g)))
+      go : (below : Bool) → ltb k 53 ≡ below → Checked.Fine ≡ restOf (rowOf k) n p
+      go true h = alike _ (run restOf (λ n p. Checked.Fine) 40 13 refl k low (ltb-true k 53 h))
+      go false h = let above = ltb-false k 53 h in alike _ (onwards restOf (λ n p. Checked.Fine) 54 refl refl k (omega arith))

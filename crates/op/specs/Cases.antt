@@ -4,7 +4,7 @@ use mathlib.Core.List.{List, [], _∷_, map}
 use mathlib.Core.Path.{_≡_, refl}
 use Rattle.op.specs.Decode.{decodeOf, decodedBy, rows}
 use Rattle.op.specs.Reach.{checkOf}
-use Rattle.op.specs.declared.Op.the-variants.{IAddI, LoadI, JmpSNe, Switch, Lookup, Alloc, Store, Halt}
+use Rattle.op.specs.declared.Op.the-variants as op
 use Rattle.op.specs.declared.Decoded.{Decoded}
 use Rattle.op.specs.declared.Counts.{Counts}
 use Rattle.op.specs.declared.Checked.{Checked}
@@ -13,21 +13,21 @@ use Rattle.op.specs.declared.Checked.{Checked}
 words : List (ℕ × Decoded)
 words =
     -- LoadI r0, 7
-    (0x000000070000001b, Decoded.Op (LoadI 0 7)) ∷
+    (0x000000070000001b, Decoded.Op (op.LoadI 0 7)) ∷
     -- IAddI r1, r0, -1
-    (0xffffffff00000101, Decoded.Op (IAddI 1 0 (2 ^ 64 - 1))) ∷
+    (0xffffffff00000101, Decoded.Op (op.IAddI 1 0 (2 ^ 64 - 1))) ∷
     -- Halt
-    (0x000000000000003b, Decoded.Op Halt) ∷
+    (0x000000000000003b, Decoded.Op op.Halt) ∷
     -- JmpSNe r1, r5, 0x1234
-    (0x0000000512340123, Decoded.Op (JmpSNe 1 5 0x1234)) ∷
+    (0x0000000512340123, Decoded.Op (op.JmpSNe 1 5 0x1234)) ∷
     -- Switch on Int, r2, table 3
-    (0x0000000300020124, Decoded.Op (Switch 1 2 3)) ∷
+    (0x0000000300020124, Decoded.Op (op.Switch 1 2 3)) ∷
     -- Lookup r4, r2, on Int, table 3
-    (0x0000000301020425, Decoded.Op (Lookup 1 4 2 3)) ∷
+    (0x0000000301020425, Decoded.Op (op.Lookup 1 4 2 3)) ∷
     -- Alloc r4, String, alignment 8, size 32
-    (0x0000002008030435, Decoded.Op (Alloc 4 3 32 8)) ∷
+    (0x0000002008030435, Decoded.Op (op.Alloc 4 3 32 8)) ∷
     -- Store r2 at r1 + 16
-    (0x0000001000020136, Decoded.Op (Store 1 16 2)) ∷
+    (0x0000001000020136, Decoded.Op (op.Store 1 16 2)) ∷
     -- Sys
     (0x0000000000000028, Decoded.Refused 12) ∷
     -- no place in op.rs
@@ -36,6 +36,8 @@ words =
     (0x0000000000002000, Decoded.Refused 13) ∷
     -- Halt with byte 1
     (0x000000000000013b, Decoded.Refused 13) ∷
+    -- Jmp with byte 1
+    (0x000000000000011d, Decoded.Refused 13) ∷
     -- JmpSEq with byte 5
     (0x0000010000000022, Decoded.Refused 13) ∷
     -- Switch on kind 2

@@ -4,16 +4,14 @@ use mathlib.Core.Bool.{Bool, cond}
 use mathlib.Core.List.{List, [], _∷_}
 use lib.ListN.{getD}
 use Rattle.op.specs.Layout.{Parts, partsOf, passes, Field, unused, register, switchKind, allocKind, alignment, anyByte, anyNumber}
+use Rattle.op.specs.Layout.{Reach, nothing, jump, function, global, switchTable, lookupTable}
 use Rattle.op.specs.declared.Op.{Op}
-use Rattle.op.specs.declared.Op.the-variants.{IAdd, IAddI, ISub, ISubI, IMul, IMulI, IDiv, IDivI, IMod, IModI, IAnd, IAndI}
-use Rattle.op.specs.declared.Op.the-variants.{ILt, IGt, IEq, IEqI, IGtI, ILtI, DAdd, DSub, DMul, DDiv, DLt, DGt, BEq, SEq}
-use Rattle.op.specs.declared.Op.the-variants.{Mov, LoadI, LoadG, Jmp, JmpT, JmpF, JmpEqI, JmpNeI, JmpSEq, JmpSNe, Switch, Lookup, Tail, Call}
-use Rattle.op.specs.declared.Op.the-variants.{CastToInt, CastToDouble, CastToBool, Alloc, Store, Load, AddrOf, Ret, Assert, Halt, Nop}
+use Rattle.op.specs.declared.Op.the-variants as op
 use Rattle.op.specs.declared.Decoded.{Decoded}
 
--- an opcode: what bytes 1, 2 and 3 and the number in bytes 4 to 7 may hold, and the instruction; or one that is not carried
+-- an opcode: what bytes 1, 2 and 3 and the number in bytes 4 to 7 may hold, what it names, and the instruction; or one that is not carried
 pub data Row : Type 0 where
-  row : Field → Field → Field → Field → (Parts → Op) → Row
+  row : Field → Field → Field → Field → Reach → (Parts → Op) → Row
   absent : Row
 
 -- 'the place of the `Op` in op.rs, from 0 (IAdd) to 60 (Nop), all 61 numbered'. A second register beside a target is byte 4:
@@ -21,48 +19,48 @@ pub data Row : Type 0 where
 unfoldable pub rows : List Row
 rows =
     -- 0: integer arithmetic
-    row register register register unused (λ p. IAdd (p .one) (p .two) (p .three)) ∷
-    row register register unused anyNumber (λ p. IAddI (p .one) (p .two) (p .signed)) ∷
-    row register register register unused (λ p. ISub (p .one) (p .two) (p .three)) ∷
-    row register register unused anyNumber (λ p. ISubI (p .one) (p .two) (p .signed)) ∷
-    row register register register unused (λ p. IMul (p .one) (p .two) (p .three)) ∷
-    row register register unused anyNumber (λ p. IMulI (p .one) (p .two) (p .signed)) ∷
-    row register register register unused (λ p. IDiv (p .one) (p .two) (p .three)) ∷
-    row register register unused anyNumber (λ p. IDivI (p .one) (p .two) (p .signed)) ∷
-    row register register register unused (λ p. IMod (p .one) (p .two) (p .three)) ∷
-    row register register unused anyNumber (λ p. IModI (p .one) (p .two) (p .signed)) ∷
-    row register register register unused (λ p. IAnd (p .one) (p .two) (p .three)) ∷
-    row register register unused anyNumber (λ p. IAndI (p .one) (p .two) (p .signed)) ∷
+    row register register register unused nothing (λ p. op.IAdd (p .one) (p .two) (p .three)) ∷
+    row register register unused anyNumber nothing (λ p. op.IAddI (p .one) (p .two) (p .signed)) ∷
+    row register register register unused nothing (λ p. op.ISub (p .one) (p .two) (p .three)) ∷
+    row register register unused anyNumber nothing (λ p. op.ISubI (p .one) (p .two) (p .signed)) ∷
+    row register register register unused nothing (λ p. op.IMul (p .one) (p .two) (p .three)) ∷
+    row register register unused anyNumber nothing (λ p. op.IMulI (p .one) (p .two) (p .signed)) ∷
+    row register register register unused nothing (λ p. op.IDiv (p .one) (p .two) (p .three)) ∷
+    row register register unused anyNumber nothing (λ p. op.IDivI (p .one) (p .two) (p .signed)) ∷
+    row register register register unused nothing (λ p. op.IMod (p .one) (p .two) (p .three)) ∷
+    row register register unused anyNumber nothing (λ p. op.IModI (p .one) (p .two) (p .signed)) ∷
+    row register register register unused nothing (λ p. op.IAnd (p .one) (p .two) (p .three)) ∷
+    row register register unused anyNumber nothing (λ p. op.IAndI (p .one) (p .two) (p .signed)) ∷
     -- 12: comparisons and doubles
-    row register register register unused (λ p. ILt (p .one) (p .two) (p .three)) ∷
-    row register register register unused (λ p. IGt (p .one) (p .two) (p .three)) ∷
-    row register register register unused (λ p. IEq (p .one) (p .two) (p .three)) ∷
-    row register register unused anyNumber (λ p. IEqI (p .one) (p .two) (p .signed)) ∷
-    row register register unused anyNumber (λ p. IGtI (p .one) (p .two) (p .signed)) ∷
-    row register register unused anyNumber (λ p. ILtI (p .one) (p .two) (p .signed)) ∷
-    row register register register unused (λ p. DAdd (p .one) (p .two) (p .three)) ∷
-    row register register register unused (λ p. DSub (p .one) (p .two) (p .three)) ∷
-    row register register register unused (λ p. DMul (p .one) (p .two) (p .three)) ∷
-    row register register register unused (λ p. DDiv (p .one) (p .two) (p .three)) ∷
-    row register register register unused (λ p. DLt (p .one) (p .two) (p .three)) ∷
-    row register register register unused (λ p. DGt (p .one) (p .two) (p .three)) ∷
-    row register register register unused (λ p. BEq (p .one) (p .two) (p .three)) ∷
-    row register register register unused (λ p. SEq (p .one) (p .two) (p .three)) ∷
+    row register register register unused nothing (λ p. op.ILt (p .one) (p .two) (p .three)) ∷
+    row register register register unused nothing (λ p. op.IGt (p .one) (p .two) (p .three)) ∷
+    row register register register unused nothing (λ p. op.IEq (p .one) (p .two) (p .three)) ∷
+    row register register unused anyNumber nothing (λ p. op.IEqI (p .one) (p .two) (p .signed)) ∷
+    row register register unused anyNumber nothing (λ p. op.IGtI (p .one) (p .two) (p .signed)) ∷
+    row register register unused anyNumber nothing (λ p. op.ILtI (p .one) (p .two) (p .signed)) ∷
+    row register register register unused nothing (λ p. op.DAdd (p .one) (p .two) (p .three)) ∷
+    row register register register unused nothing (λ p. op.DSub (p .one) (p .two) (p .three)) ∷
+    row register register register unused nothing (λ p. op.DMul (p .one) (p .two) (p .three)) ∷
+    row register register register unused nothing (λ p. op.DDiv (p .one) (p .two) (p .three)) ∷
+    row register register register unused nothing (λ p. op.DLt (p .one) (p .two) (p .three)) ∷
+    row register register register unused nothing (λ p. op.DGt (p .one) (p .two) (p .three)) ∷
+    row register register register unused nothing (λ p. op.BEq (p .one) (p .two) (p .three)) ∷
+    row register register register unused nothing (λ p. op.SEq (p .one) (p .two) (p .three)) ∷
     -- 26: moves, jumps, tables and calls
-    row register register unused unused (λ p. Mov (p .one) (p .two)) ∷
-    row register unused unused anyNumber (λ p. LoadI (p .one) (p .signed)) ∷
-    row register unused unused anyNumber (λ p. LoadG (p .one) (p .number)) ∷
-    row unused anyByte anyByte unused (λ p. Jmp (p .target)) ∷
-    row register anyByte anyByte unused (λ p. JmpT (p .one) (p .target)) ∷
-    row register anyByte anyByte unused (λ p. JmpF (p .one) (p .target)) ∷
-    row register anyByte anyByte anyNumber (λ p. JmpEqI (p .one) (p .signed) (p .target)) ∷
-    row register anyByte anyByte anyNumber (λ p. JmpNeI (p .one) (p .signed) (p .target)) ∷
-    row register anyByte anyByte register (λ p. JmpSEq (p .one) (p .number) (p .target)) ∷
-    row register anyByte anyByte register (λ p. JmpSNe (p .one) (p .number) (p .target)) ∷
-    row switchKind register unused anyNumber (λ p. Switch (p .one) (p .two) (p .number)) ∷
-    row register register switchKind anyNumber (λ p. Lookup (p .three) (p .one) (p .two) (p .number)) ∷
-    row unused unused unused anyNumber (λ p. Tail (p .number)) ∷
-    row unused unused unused anyNumber (λ p. Call (p .number)) ∷
+    row register register unused unused nothing (λ p. op.Mov (p .one) (p .two)) ∷
+    row register unused unused anyNumber nothing (λ p. op.LoadI (p .one) (p .signed)) ∷
+    row register unused unused anyNumber global (λ p. op.LoadG (p .one) (p .number)) ∷
+    row unused anyByte anyByte unused jump (λ p. op.Jmp (p .target)) ∷
+    row register anyByte anyByte unused jump (λ p. op.JmpT (p .one) (p .target)) ∷
+    row register anyByte anyByte unused jump (λ p. op.JmpF (p .one) (p .target)) ∷
+    row register anyByte anyByte anyNumber jump (λ p. op.JmpEqI (p .one) (p .signed) (p .target)) ∷
+    row register anyByte anyByte anyNumber jump (λ p. op.JmpNeI (p .one) (p .signed) (p .target)) ∷
+    row register anyByte anyByte register jump (λ p. op.JmpSEq (p .one) (p .number) (p .target)) ∷
+    row register anyByte anyByte register jump (λ p. op.JmpSNe (p .one) (p .number) (p .target)) ∷
+    row switchKind register unused anyNumber switchTable (λ p. op.Switch (p .one) (p .two) (p .number)) ∷
+    row register register switchKind anyNumber lookupTable (λ p. op.Lookup (p .three) (p .one) (p .two) (p .number)) ∷
+    row unused unused unused anyNumber function (λ p. op.Tail (p .number)) ∷
+    row unused unused unused anyNumber function (λ p. op.Call (p .number)) ∷
     -- 40: Sys, Native, Push to Pop3, StoreSlot and LoadSlot are not carried
     absent ∷
     absent ∷
@@ -75,18 +73,22 @@ rows =
     absent ∷
     absent ∷
     -- 50: casts, memory, Ret, Assert, Halt and Nop
-    row register register unused unused (λ p. CastToInt (p .one) (p .two)) ∷
-    row register register unused unused (λ p. CastToDouble (p .one) (p .two)) ∷
-    row register register unused unused (λ p. CastToBool (p .one) (p .two)) ∷
-    row register allocKind alignment anyNumber (λ p. Alloc (p .one) (p .two) (p .number) (p .three)) ∷
-    row register register unused anyNumber (λ p. Store (p .one) (p .number) (p .two)) ∷
-    row register register unused anyNumber (λ p. Load (p .one) (p .two) (p .number)) ∷
-    row register register unused anyNumber (λ p. AddrOf (p .one) (p .two) (p .number)) ∷
-    row unused unused unused unused (λ p. Ret) ∷
-    row register unused unused unused (λ p. Assert (p .one)) ∷
-    row unused unused unused unused (λ p. Halt) ∷
-    row unused unused unused unused (λ p. Nop) ∷
+    row register register unused unused nothing (λ p. op.CastToInt (p .one) (p .two)) ∷
+    row register register unused unused nothing (λ p. op.CastToDouble (p .one) (p .two)) ∷
+    row register register unused unused nothing (λ p. op.CastToBool (p .one) (p .two)) ∷
+    row register allocKind alignment anyNumber nothing (λ p. op.Alloc (p .one) (p .two) (p .number) (p .three)) ∷
+    row register register unused anyNumber nothing (λ p. op.Store (p .one) (p .number) (p .two)) ∷
+    row register register unused anyNumber nothing (λ p. op.Load (p .one) (p .two) (p .number)) ∷
+    row register register unused anyNumber nothing (λ p. op.AddrOf (p .one) (p .two) (p .number)) ∷
+    row unused unused unused unused nothing (λ p. op.Ret) ∷
+    row register unused unused unused nothing (λ p. op.Assert (p .one)) ∷
+    row unused unused unused unused nothing (λ p. op.Halt) ∷
+    row unused unused unused unused nothing (λ p. op.Nop) ∷
     []
+
+-- how many there are
+abbrev pub opcodes : ℕ
+opcodes = 61
 
 abbrev pub rowOf : ℕ → Row
 rowOf opcode = getD rows opcode absent
@@ -97,7 +99,7 @@ checkedOf fits op = cond fits (Decoded.Op op) (Decoded.Refused 13)
 
 -- 12: 'opcode 40–49 or above 60'
 unfoldable pub decodedBy : Row → Parts → Decoded
-decodedBy (row one two three number op) p = checkedOf (passes one two three number p) (op p)
+decodedBy (row one two three number reach make) p = checkedOf (passes one two three number p) (make p)
 decodedBy absent p = Decoded.Refused 12
 
 abbrev pub decoded : Parts → Decoded

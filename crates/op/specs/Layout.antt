@@ -1,4 +1,4 @@
--- Document 01, 'Instruction and image': the parts of a word, and what may stand in them. Definitions only.
+-- Document 01, 'Instruction and image': the parts of a word, what may stand in them, and what they may name. Definitions only.
 use Prim.Native.Nat.{ℕ, _+_, _-_, _%_, _/_, _^_}
 use mathlib.Core.Bool.{Bool, cond, _&&_, _||_}
 use lib.Dec.{eqb, ltb}
@@ -58,3 +58,8 @@ holds anyNumber n = ltb n (2 ^ 32)
 -- bytes 1, 2 and 3 and the number in bytes 4 to 7 hold what they may
 abbrev pub passes : Field → Field → Field → Field → Parts → Bool
 passes one two three number p = holds one (p .one) && holds two (p .two) && holds three (p .three) && holds number (p .number)
+
+-- what an instruction names by a number: nothing; a place in the code, by its target or by the number in bytes 4 to 7; by that number a
+-- global or a table
+pub data Reach : Type 0 where
+  nothing jump function global switchTable lookupTable : Reach

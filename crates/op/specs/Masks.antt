@@ -3,7 +3,7 @@ use Prim.Native.Nat.{ℕ, _+_, _-_, _*_, _^_}
 use mathlib.Core.Bool.{Bool, true, cond, _&&_}
 use Rattle.op.specs.Layout.{Parts, isAlignment, Field, unused, register, switchKind, allocKind, alignment, anyByte, anyNumber}
 use Rattle.op.specs.Decode.{Row, row, absent}
-use Rattle.op.specs.Reach.{reachOf, within}
+use Rattle.op.specs.Reach.{there}
 use Rattle.op.specs.declared.Counts.{Counts}
 use Rattle.op.specs.declared.Checked.{Checked}
 
@@ -27,7 +27,7 @@ maskOf a b c d = from 32 d * 2 ^ 32 + (from 8 c * 2 ^ 24 + (from 8 b * 2 ^ 16 + 
 
 -- 1 stands where an opcode is not carried: no mask has a bit of byte 0
 unfoldable pub maskOfRow : Row → ℕ
-maskOfRow (row one two three number op) = maskOf (bits one) (bits two) (bits three) (bits number)
+maskOfRow (row one two three number reach make) = maskOf (bits one) (bits two) (bits three) (bits number)
 maskOfRow absent = 1
 
 -- `bits` says it all but for an alignment
@@ -45,5 +45,5 @@ allAligned one two three number p = aligned one (p .one) && aligned two (p .two)
 
 -- what is answered of a word that has no bit of its mask; of a row that is not carried it is not asked
 unfoldable pub restOf : Row → Counts → Parts → Checked
-restOf (row one two three number op) n p = cond (allAligned one two three number p) (within n (reachOf (op p))) (Checked.Refused 13)
+restOf (row one two three number reach make) n p = cond (allAligned one two three number p) (there n reach p) (Checked.Refused 13)
 restOf absent n p = Checked.Fine

@@ -1,5 +1,5 @@
 // Whether an image may hold a word. This is for every word of an image, before a run: it goes by a table of masks, and leaves
-// `decode` to the loop of the run.
+// `decode` (`decoder`) to the loop of the run.
 ghost use mathlib.Core.Path.{_≡_};
 ghost use mathlib.Core.Bool.{cond};
 ghost use Prim.Native.Nat.{_%_};
@@ -9,6 +9,7 @@ ghost use Rattle.op.specs.Masks.{maskOfRow, restOf};
 ghost use Rattle.op.specs.Reach.{checkOf, insideOf};
 use crate::Checked;
 use crate::Counts;
+use crate::OPCODES;
 use crate::word::ALLOC;
 use crate::word::BARE;
 use crate::word::CONDITION;
@@ -34,7 +35,7 @@ use anomaly::Refusal;
 const ABSENT: u64 = 1;
 
 // The mask of each opcode.
-const MASK: [u64; 61] = [
+const MASK: [u64; OPCODES] = [
     THREE, // IAdd
     TWO_AND_NUMBER, // IAddI
     THREE, // ISub
@@ -101,7 +102,11 @@ const MASK: [u64; 61] = [
 fn mask(opcode: usize) -> u64
     ensures { λ r. ⌜ r ≡ maskOfRow (rowOf opcode) ⌝ }
 {
-    if opcode < 61 { MASK[opcode] } else { ABSENT }
+    if opcode < OPCODES {
+        MASK[opcode]
+    } else {
+        ABSENT
+    }
 }
 
 fn aligned(align: usize) -> Checked

@@ -29,14 +29,15 @@ ghost use mathlib.Core.Path.{_≡_};
 ghost use Rattle.op.specs.Decode.{refusalOf};
 
 mod checker;
-mod decoder;
-mod word;
+pub mod word;
 
 pub use checker::check;
-pub use decoder::decode;
 pub use word::is_alignment;
 
 pub const REGISTER_COUNT: usize = 32;
+
+// The opcodes from 0 on, with those that are not carried.
+const OPCODES: usize = 61;
 
 // The number of a register. All fields of `Op` are 8 bytes wide: with narrower ones the loop of a run is slower.
 pub type Reg = usize;

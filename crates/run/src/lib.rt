@@ -62,7 +62,7 @@ fn go(
     let mut left = budget;
     while left > 0 {
         let pc = at.pc;
-        let effect = effects::word_effect(code[pc], regs, image);
+        let effect = meaning::word_effect(code[pc], regs, image);
         match apply(effect, at, regs, frames, heap) {
             Turn::Next(to) => {
                 at = to;

@@ -45,7 +45,7 @@ macro_rules! instructions {
         pub mod op {
             $(pub const $name: u8 = $number;)*
         }
-        pub const ROWS: [(&str, Format); 61] = [$((stringify!($name), Format::$format),)*];
+        pub const ROWS: &[(&str, Format)] = &[$((stringify!($name), Format::$format),)*];
     };
 }
 

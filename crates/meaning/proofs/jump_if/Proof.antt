@@ -1,7 +1,7 @@
--- `effects::jump_if` meets its contract. Assumes nothing.
+-- `meaning::jump_if` meets its contract. Assumes nothing.
 use Rattle.effects.specs.Effect.{jumpIf}
-use Rattle.effects.proofs.jump_if.Statement.{statement}
-use Rattle.effects.proofs.jump_if.Tie as tie
+use Rattle.meaning.proofs.jump_if.Statement.{statement}
+use Rattle.meaning.proofs.jump_if.Tie as tie
 
 returns : tie.Need-returns
 unfolding jumpIf

@@ -1,10 +1,9 @@
--- `effects::word_effect` meets its contract. Assumes nothing.
+-- `meaning::word_effect` meets its contract. Assumes nothing.
 use mathlib.Core.Path.{refl, sym, _∙_}
-use Rattle.op.proofs.Sound.{ok-op}
 use Rattle.effects.specs.Effect.{wordEffect}
 use borrow.Author.Needs.{needs}
-use Rattle.effects.proofs.word_effect.Statement.{statement}
-use Rattle.effects.proofs.word_effect.Tie as tie
+use Rattle.meaning.proofs.word_effect.Statement.{statement}
+use Rattle.meaning.proofs.word_effect.Tie as tie
 
 returns : tie.Need-returns
 unfolding wordEffect
@@ -18,7 +17,7 @@ effect-of-requires c κs =
     let decoded = c .before in
     let decode = decoded .before .before in
     let start = decode .before .before in
-    (ok-op _ _ (sym (decode .decode .ensures) ∙ decoded .decoded .given .1), start .pre)
+    ((_, sym (decode .decode .ensures) ∙ decoded .decoded .given .1), start .pre)
 
 returns-2 : tie.Need-returns-2
 unfolding wordEffect

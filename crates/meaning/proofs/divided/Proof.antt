@@ -1,8 +1,8 @@
--- `effects::divided` meets its contract. Assumes nothing.
+-- `meaning::divided` meets its contract. Assumes nothing.
 use Rattle.effects.specs.Effect.{divided}
 use borrow.Author.Needs.{needs}
-use Rattle.effects.proofs.divided.Statement.{statement}
-use Rattle.effects.proofs.divided.Tie as tie
+use Rattle.meaning.proofs.divided.Statement.{statement}
+use Rattle.meaning.proofs.divided.Tie as tie
 
 returns : tie.Need-returns
 unfolding divided

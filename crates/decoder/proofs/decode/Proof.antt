@@ -1,8 +1,8 @@
 -- `decode` meets its contract, by the range of the opcode. Assumes nothing.
 use borrow.Author.Needs.{needs}
 use Rattle.op.proofs.Rows.{refused-between, refused-above}
-use Rattle.op.proofs.decoder.decode.Statement.{statement}
-use Rattle.op.proofs.decoder.decode.Tie as tie
+use Rattle.decoder.proofs.decode.Statement.{statement}
+use Rattle.decoder.proofs.decode.Tie as tie
 
 pub decode-spec : {M : Type 1} → statement M
 decode-spec =

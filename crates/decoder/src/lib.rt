@@ -3,31 +3,31 @@
 // a function or a table for each format: one long match a range of opcodes is what ran fastest (docs/DECISIONS.md, 20 and 21).
 ghost use mathlib.Core.Path.{_≡_};
 ghost use Prim.Native.Nat.{_%_, _<_, _≤_};
-ghost use Rattle.op.specs.Decode.{decodeOf, checkedOf};
-use crate::Decoded;
-use crate::Op;
-use crate::word::BARE;
-use crate::word::CONDITION;
-use crate::word::FUNCTION;
-use crate::word::JUMP;
-use crate::word::JUMP_IF;
-use crate::word::JUMP_IMMEDIATE;
-use crate::word::JUMP_TWO;
-use crate::word::LOOKUP;
-use crate::word::ONE_AND_NUMBER;
-use crate::word::SWITCH;
-use crate::word::THREE;
-use crate::word::TWO;
-use crate::word::TWO_AND_NUMBER;
-use crate::word::byte_one;
-use crate::word::byte_three;
-use crate::word::byte_two;
-use crate::word::fits;
-use crate::word::fits_alloc;
-use crate::word::target;
-use crate::word::upper;
-use crate::word::upper_signed;
+ghost use Rattle.op.specs.Decode.{opcodes, decodeOf, checkedOf};
 use anomaly::Refusal;
+use op::Decoded;
+use op::Op;
+use op::word::BARE;
+use op::word::CONDITION;
+use op::word::FUNCTION;
+use op::word::JUMP;
+use op::word::JUMP_IF;
+use op::word::JUMP_IMMEDIATE;
+use op::word::JUMP_TWO;
+use op::word::LOOKUP;
+use op::word::ONE_AND_NUMBER;
+use op::word::SWITCH;
+use op::word::THREE;
+use op::word::TWO;
+use op::word::TWO_AND_NUMBER;
+use op::word::byte_one;
+use op::word::byte_three;
+use op::word::byte_two;
+use op::word::fits;
+use op::word::fits_alloc;
+use op::word::target;
+use op::word::upper;
+use op::word::upper_signed;
 
 fn checked(fits: bool, op: Op) -> Decoded
     ensures { λ r. ⌜ r ≡ checkedOf fits op ⌝ }
@@ -366,7 +366,7 @@ fn moves_and_jumps(w: u64) -> Decoded
 
 // 50 to 60, with Ret, Assert, Halt and Nop.
 fn casts_and_memory(w: u64) -> Decoded
-    requires { ⌜ (50 ≤ w % 256) × (w % 256 < 61) ⌝ }
+    requires { ⌜ (50 ≤ w % 256) × (w % 256 < opcodes) ⌝ }
     ensures { λ r. ⌜ r ≡ decodeOf w ⌝ }
 {
     let opcode = w % 256;

@@ -1,0 +1,2 @@
+-- Names for what an arm calls.
+pub mod Calls
