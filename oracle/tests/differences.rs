@@ -149,3 +149,12 @@ fn there_is_no_budget() {
     assert_eq!(ours, Answer::End { number: 5, pc: 0, steps: Some(0) });
     assert_eq!(theirs, Some(Answer::End { number: 0, pc: 0, steps: None }));
 }
+
+/// Every payload lies at a multiple of 8, whatever align is asked for.
+#[test]
+fn an_align_of_16_is_taken_and_not_kept() {
+    let _one = one();
+    let block = |align| Call::Allocate { kind: 0, align, size: 8 };
+    let (ours, theirs, ..) = both(&[], &[block(8), block(16)]);
+    assert_eq!((ours, theirs), (Answer::Refused(13), Some(Answer::Value(B + 72))));
+}
