@@ -24,6 +24,8 @@
  *
  * Nothing is ever freed: blocks, options and names stay until a new start empties the heap. What a call costs: every run first tests the
  * whole image and the frames in use, however short it is, and every interning all active slots, also of a name that is known.
+ *
+ * Names, numbers and layouts are carried over from purple-garden, under the MIT licence: NOTICE, which goes where this file goes.
  */
 #ifndef GIRZHANOK_H
 #define GIRZHANOK_H

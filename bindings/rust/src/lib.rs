@@ -35,6 +35,9 @@
 //!
 //! Memory safety rests on the borrow rules, which keep the lent buffers apart, and on the library's proof, which keeps every access
 //! inside them.
+//!
+//! Names, numbers and layouts are carried over from purple-garden, under the MIT licence: `NOTICE`, at the repository's root, which goes
+//! where this crate goes.
 #![warn(missing_docs)]
 
 mod ffi;
