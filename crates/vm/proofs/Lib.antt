@@ -20,3 +20,4 @@ pub mod Grows
 pub mod Registers
 pub mod Belongs
 pub mod Exactly
+pub mod Answered
