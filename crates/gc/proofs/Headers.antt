@@ -19,13 +19,18 @@ flags-padded f h =
     let none : f / 256 ≡ 0 = omega arith in
     rw (low, none) refl
 
+-- two numbers of 8 bytes, one after the other
+pub two-written : (x y : ℕ) (to : List ℕ) → write 8 (bytesOf 8 y) (write 0 (bytesOf 8 x) to) ≡ over (bytesOf 8 x ++ bytesOf 8 y) to
+unfolding write
+two-written x y to =
+    ap (λ (k : ℕ). write k (bytesOf 8 y) (write 0 (bytesOf 8 x) to)) (sym (zero-add (length (bytesOf 8 x)) ∙ length-bytesOf 8 x))
+    ∙ write-append 0 (bytesOf 8 x) (bytesOf 8 y) to
+
 pub header-written : (size flags w : ℕ) (to : List ℕ) → w ≡ flags → flags < 256
     → write 8 (bytesOf 8 w) (write 0 (bytesOf 8 size) to) ≡ over (headerOf size flags) to
-unfolding headerOf write
+unfolding headerOf
 header-written size flags w to e h =
-    ap (λ (k : ℕ). write k (bytesOf 8 w) (write 0 (bytesOf 8 size) to)) (sym (zero-add (length (bytesOf 8 size)) ∙ length-bytesOf 8 size))
-    ∙ write-append 0 (bytesOf 8 size) (bytesOf 8 w) to
-    ∙ ap (λ (l : List ℕ). over (bytesOf 8 size ++ l) to) (ap (bytesOf 8) e ∙ flags-padded flags h)
+    two-written size w to ∙ ap (λ (l : List ℕ). over (bytesOf 8 size ++ l) to) (ap (bytesOf 8) e ∙ flags-padded flags h)
 
 pub header-length : (size flags : ℕ) → length (headerOf size flags) ≡ 16
 unfolding headerOf

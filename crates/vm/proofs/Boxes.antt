@@ -4,19 +4,20 @@ use Prim.Native.Nat.{ℕ, _+_, _-_, _^_, _≤_, _<_}
 use mathlib.Core.Bool.{true}
 use mathlib.Core.List.{List, _++_}
 use native.Mathlib.Omega.{arith}
-use lib.ListN.{length, length-append}
+use lib.ListN.{length, take, drop, length-append, length-drop}
+use lib.Seq.{length-take-le}
 use lib.Dec.{leb}
 use borrow.Author.Tests.{leb-true, le-leb}
 use Rattle.memory.specs.Bytes.{bytesOf}
 use Rattle.memory.specs.Lists.{over, write}
-use Rattle.memory.proofs.Over.{length-over, length-write, over-write, write-append}
+use Rattle.memory.proofs.Over.{length-over, length-write, over-write, tail-returned}
 use Rattle.memory.proofs.Bytes.{length-bytesOf}
 use Rattle.gc.specs.declared.Gc.{Gc}
 use Rattle.gc.specs.declared.Alloc.{Alloc}
 use Rattle.gc.specs.Pages.{Block, growOf, gapOf, holds, block, pushed, fitted, allocated}
 use Rattle.gc.specs.Lent.{pageSize, pagesOf, numbersOf, outcome, fits, granted, grantedIn, allocOf, InHeap}
 use Rattle.vm.specs.Core.{setPages, setBytes}
-use Rattle.vm.specs.Names.{filled, boxed}
+use Rattle.vm.specs.Names.{boxOf, filled, boxed}
 use Rattle.vm.specs.Machine.{firstPage, firstMemory}
 use Rattle.vm.specs.Told.{blockOf, memoryIn}
 use Rattle.vm.proofs.Starting.{first-length}
@@ -47,21 +48,17 @@ module _ (g : Gc) (heap : List ℕ) (s : InHeap g heap) (tag v : ℕ) where
   unfolding numbersOf boxed filled setPages setBytes
   same-numbers = rw length-write refl
 
-  abbrev words : List ℕ
-  words = bytesOf 8 tag ++ bytesOf 8 v
+  box-length : length (boxOf tag v) ≡ 16
+  box-length = rw (length-append, length-bytesOf, length-bytesOf) refl
 
-  -- the two words, one after the other into the lent heap
-  laid-words : write (b .address - g .base + 8) (bytesOf 8 v) (write (b .address - g .base) (bytesOf 8 tag) (over (b .pages .bytes) heap))
-      ≡ over (goal .pages .bytes) heap
+  -- the two words in the lent heap
+  laid-box : write (b .address - g .base) (boxOf tag v) (over (b .pages .bytes) heap) ≡ over (goal .pages .bytes) heap
   unfolding boxed filled setPages setBytes pagesOf
-  laid-words =
+  laid-box =
       let at : ℕ = b .address - g .base in
       let base = base-is in
-      let n : length (bytesOf 8 tag) ≡ 8 = length-bytesOf 8 tag in
-      let long : length words ≡ 16 = length-append (bytesOf 8 tag) (bytesOf 8 v) ∙ ap₂ (λ (i j : ℕ). i + j) n (length-bytesOf 8 v) in
       let room : at + 16 ≤ length (b .pages .bytes) = omega (arith, base, in-payload .within) in
-      let joined = write-append at (bytesOf 8 tag) (bytesOf 8 v) (over (b .pages .bytes) heap) in
-      rw base (rw n at joined ∙ sym (over-write at words (b .pages .bytes) heap (rw long room)))
+      rw base (sym (over-write at (boxOf tag v) (b .pages .bytes) heap (rw box-length room)))
 
   module _ (r : Alloc) (x : List ℕ) (e : outcome r x ≡ allocOf g 2 16 heap) where
     pub box-refused : r ≡ Alloc.Refused → outcome Alloc.Refused x ≡ grantedIn goal heap
@@ -83,18 +80,30 @@ module _ (g : Gc) (heap : List ℕ) (s : InHeap g heap) (tag v : ℕ) where
           let fit : length (b .pages .bytes) ≤ length heap = leb-true _ _ (said .fitting) in
           omega (arith, said .address, base-is, in-payload .within)
 
-      pub box-room : a - g .base + 16 ≤ length x
-      box-room = rw (said .bytes, length-over) in-lent
+      in-part : a - g .base + 16 ≤ length x
+      in-part = rw (said .bytes, length-over) in-lent
 
-      pub box-small : a - g .base + 8 < 2 ^ 64
-      box-small = let room = in-lent in let low = s .low in omega arith
+      pub box-starts : a - g .base ≤ length x
+      box-starts = omega (arith, in-part)
 
-      pub box-written : (y z : List ℕ) → y ≡ write (a - g .base) (bytesOf 8 tag) x → z ≡ write (a - g .base + 8) (bytesOf 8 v) y
-          → outcome (Alloc.At a h) z ≡ grantedIn goal heap
+      -- the part of the heap that starts at the payload
+      abbrev to : List ℕ
+      to = take (length x - (a - g .base)) (drop (a - g .base) x)
+
+      pub box-room : 16 ≤ length to
+      box-room =
+          let w = in-part in
+          let l : length (drop (a - g .base) x) ≡ length x - (a - g .base) = length-drop (a - g .base) x in
+          rw (length-take-le (length x - (a - g .base)) (drop (a - g .base) x) (omega arith)) (omega arith)
+
+      pub box-written : (y : List ℕ) → y ≡ over (boxOf tag v) to
+          → outcome (Alloc.At a h) (take (a - g .base) x ++ (y ++ drop (length x - (a - g .base)) (drop (a - g .base) x))) ≡ grantedIn goal heap
       unfolding granted boxed filled
-      box-written y z ey ez =
+      box-written y q =
           let at : a - g .base ≡ b .address - g .base = ap (λ (k : ℕ). k - g .base) (said .address) in
-          let home : z ≡ over (goal .pages .bytes) heap = ez ∙ rw (ey, said .bytes, at) laid-words in
+          let back = tail-returned (a - g .base) (length x) (boxOf tag v) x refl box-starts in
+          let home : take (a - g .base) x ++ (y ++ drop (length x - (a - g .base)) (drop (a - g .base) x))
+          ≡ over (goal .pages .bytes) heap = rw (q, back, said .bytes, at) laid-box in
           let answer : Alloc.At a h ≡ Alloc.At (goal .address) (numbersOf (goal .pages)) = ap₂ (λ (k : ℕ) (n : Gc). Alloc.At k n)
           (said .address) (said .numbers ∙ same-numbers) in
           rw (same-fit ∙ said .fitting) (ap₂ outcome answer home)

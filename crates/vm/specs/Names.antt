@@ -34,9 +34,13 @@ asGiven l b = record { value = b .address; memory = setPages (b .pages) l }
 unfoldable pub allocates : ℕ → ℕ → Memory → Given
 allocates kind n l = asGiven l (allocated pageSize kind n (l .pages))
 
+-- a tag and a value
+abbrev pub boxOf : ℕ → ℕ → List ℕ
+boxOf tag v = bytesOf 8 tag ++ bytesOf 8 v
+
 -- '`new_option` of a value boxes [1, value] anew', an Option (2) of 16 bytes; a start boxes [0, 0]
 unfoldable pub boxed : ℕ → ℕ → Memory → Given
-boxed tag v l = filled (bytesOf 8 tag ++ bytesOf 8 v) l (allocated pageSize 2 16 (l .pages))
+boxed tag v l = filled (boxOf tag v) l (allocated pageSize 2 16 (l .pages))
 
 -- '`new_option` of none returns `none`', which is B+16
 unfoldable pub optional : Option ℕ → Memory → Given

@@ -1,8 +1,11 @@
 // The machine: what it keeps between calls, and the calls of its host.
 ghost use mathlib.Core.Path.{_≡_};
+ghost use Prim.Native.Nat.{_≤_};
+ghost use lib.ListN.{length};
+ghost use Rattle.memory.specs.Lists.{over};
 ghost use Rattle.vm.specs.Machine.{Lent, lendFrames, lendHeap, reset, putPc, putReg, setting, allocate, option, host, done, perform};
 ghost use Rattle.gc.specs.Lent.{InHeap, outcome, grantedIn};
-ghost use Rattle.vm.specs.Names.{boxed};
+ghost use Rattle.vm.specs.Names.{boxOf, boxed};
 ghost use Rattle.vm.specs.Told.{machineOf, told, refusedBy, allocatedIn, blockOf, memoryIn, optionOf};
 
 pub mod lent;
@@ -59,9 +62,17 @@ fn boxed(gc: Gc, tag: u64, value: u64, heap: &mut [u8]) -> Alloc
         return Alloc::Refused;
     };
     let at = (address - base) as usize;
-    memory::store8(heap, at, tag);
-    memory::store8(heap, at + 8, value);
+    write_box(&mut heap[at..], tag, value);
     block
+}
+
+// The two words, into the part of the heap that starts at the payload.
+fn write_box(to: &mut [u8], tag: u64, value: u64)
+    requires { ⌜ 16 ≤ length (now to) ⌝ }
+    ensures { λ _. ⌜ now (to .exit) ≡ over (boxOf tag value) (now (to .entry)) ⌝ }
+{
+    memory::store8(to, 0, tag);
+    memory::store8(to, 8, value);
 }
 
 impl State {

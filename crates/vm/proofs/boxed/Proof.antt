@@ -1,15 +1,16 @@
 -- `vm::boxed` meets its contract. Assumes nothing.
 use mathlib.Core.Path.{_≡_}
-use native.Mathlib.Omega.{arith}
-use Rattle.memory.proofs.Over.{length-write}
 use Rattle.gc.specs.Lent.{outcome, allocOf}
-use Rattle.vm.proofs.Boxes.{box-refused, box-low, box-room, box-small, box-written}
+use Rattle.vm.proofs.Boxes.{box-refused, box-low, box-starts, box-room, box-written}
 use borrow.Author.Needs.{needs}
 use Rattle.vm.proofs.boxed.Statement.{statement}
 use Rattle.vm.proofs.boxed.Tie as tie
 
 abbrev start-of : tie.After-alloc → tie.Start
 start-of c = c .before .before .before .before
+
+abbrev alloc-of : tie.After-block → tie.After-alloc
+alloc-of c = c .before .before .before .before
 
 -- an Option of 16 bytes was asked for
 block-of : (c : tie.After-alloc)
@@ -26,44 +27,37 @@ returns c =
 sub-at : tie.Need-sub-at
 sub-at c =
     let block = c .before in
-    let alloc = block .before .before .before .before in
-    let start = start-of alloc in
-    box-low _ _ (start .pre) (start .args .tag) (start .args .value) _ _ (block-of alloc) _ _ (block .block .given .1)
+    let start = start-of (alloc-of block) in
+    box-low _ _ (start .pre) (start .args .tag) (start .args .value) _ _ (block-of (alloc-of block)) _ _ (block .block .given .1)
 
-store8-requires : tie.Need-store8-requires
-store8-requires c κs =
+sub-write-box : tie.Need-sub-write-box
+sub-write-box c =
+    let block = c .before in
+    let start = start-of (alloc-of block) in
+    box-starts _ _ (start .pre) (start .args .tag) (start .args .value) _ _ (block-of (alloc-of block)) _ _ (block .block .given .1)
+
+part-write-box-start : tie.Need-part-write-box-start
+part-write-box-start c =
+    let block = c .before in
+    let start = start-of (alloc-of block) in
+    box-starts _ _ (start .pre) (start .args .tag) (start .args .value) _ _ (block-of (alloc-of block)) _ _ (block .block .given .1)
+
+write-box-requires : tie.Need-write-box-requires
+write-box-requires c κs =
     let block = c .before .before in
-    let alloc = block .before .before .before .before in
-    let start = start-of alloc in
-    let room = box-room _ _ (start .pre) (start .args .tag) (start .args .value) _ _ (block-of alloc) _ _ (block .block .given .1) in omega arith
-
-add-store8 : tie.Need-add-store8
-add-store8 c =
-    let block = c .before .before .before .before .before .before in
-    let alloc = block .before .before .before .before in
-    let start = start-of alloc in
-    record { fits = box-small _ _ (start .pre) (start .args .tag) (start .args .value) _ _ (block-of alloc) _ _ (block .block .given .1) }
-
-store8-requires-2 : tie.Need-store8-requires-2
-store8-requires-2 c κs =
-    let store8 = c .before .before .before in
-    let block = store8 .before .before .before in
-    let alloc = block .before .before .before .before in
-    let start = start-of alloc in
-    let room = box-room _ _ (start .pre) (start .args .tag) (start .args .value) _ _ (block-of alloc) _ _ (block .block .given .1) in
-    rw (store8 .store8 .ensures, length-write) (omega arith)
+    let start = start-of (alloc-of block) in
+    box-room _ _ (start .pre) (start .args .tag) (start .args .value) _ _ (block-of (alloc-of block)) _ _ (block .block .given .1)
 
 returns-2 : tie.Need-returns-2
 returns-2 c =
-    let store82 = c .before .before in
-    let store8 = store82 .before .before .before .before in
-    let block = store8 .before .before .before in
-    let alloc = block .before .before .before .before in
-    box-written _ _ (start-of alloc .pre) _ _ _ _ (block-of alloc) _ _ (block .block .given .1) _ _ (store8 .store8 .ensures)
-    (store82 .store82 .ensures)
+    let write-box = c .before .before in
+    let block = write-box .before .before .before in
+    let start = start-of (alloc-of block) in
+    box-written _ _ (start .pre) (start .args .tag) (start .args .value) _ _ (block-of (alloc-of block)) _ _ (block .block .given .1) _
+    (write-box .write-box .ensures)
 
 pub boxed-spec : {M : Type 1} → statement M
 boxed-spec =
     tie.close
     (tie.spec (λ c κs. search needs) (λ c κs. search needs) (λ c. search needs) (λ c. search needs) (λ c. search needs) returns sub-at
-    store8-requires add-store8 store8-requires-2 (λ c. search needs) returns-2)
+    sub-write-box part-write-box-start (λ c. search needs) write-box-requires (λ c. search needs) returns-2)
