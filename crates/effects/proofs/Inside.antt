@@ -70,7 +70,7 @@ below-drop n (suc a) (x ∷ xs) h = below-drop n a xs (rest n x xs h)
     rest : (n x : ℕ) (xs : List ℕ) → below n (x ∷ xs) ≡ true → below n xs ≡ true
     rest n x xs h = both (ltb x n) (below n xs) (unfold below in h) .1
 
-below-take : (n m : ℕ) (xs : List ℕ) → below n xs ≡ true → below n (take m xs) ≡ true
+pub below-take : (n m : ℕ) (xs : List ℕ) → below n xs ≡ true → below n (take m xs) ≡ true
 unfolding below
 below-take n zero xs h = refl
 below-take n (suc m) [] h = refl

@@ -12,6 +12,7 @@ use Rattle.memory.proofs.Tests.{both}
 use Rattle.effects.specs.declared.Effect.{Effect}
 use Rattle.effects.specs.declared.Effect.the-variants as effect
 use Rattle.program.specs.Image.{Image, below}
+use Rattle.effects.proofs.Inside.{below-take}
 use Rattle.vm.specs.Core.{Core, Sizes, used, short, setRegs, setPc, setFrames, setMemory}
 use Rattle.vm.specs.Run.{Step, next, halted, stop, provided, forward, returned, blockTo, apply, step, go}
 use Rattle.vm.specs.Machine.{returnsOk}
@@ -22,12 +23,6 @@ use Rattle.vm.proofs.Kept.{GoodStep, step-good}
 use Rattle.vm.proofs.Inside.{Inside, StepOk, step-ok}
 
 -- ---- places below a bound
-
-below-take : (n d : ℕ) (xs : List ℕ) → below n xs ≡ true → below n (take d xs) ≡ true
-unfolding below
-below-take n zero xs h = refl
-below-take n (suc d) [] h = refl
-below-take n (suc d) (x ∷ xs) h = let k = both (ltb x n) _ h in rw (k .0) (below-take n d xs (k .1))
 
 below-append : (n : ℕ) (xs : List ℕ) (p : ℕ) → below n xs ≡ true → p < n → below n (xs ++ (p ∷ [])) ≡ true
 unfolding below
