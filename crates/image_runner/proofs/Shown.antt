@@ -20,7 +20,8 @@ use Rattle.vm.proofs.Ends.{run-answers, start-answers}
 use Rattle.vm.proofs.Answered.{host-answers}
 use Rattle.image_words.specs.Said.{imageSaid}
 use Rattle.image_names.specs.Named.{Interned, internOn, internAll}
-use Rattle.rating.specs.Rated.{lentFor, replyText, runText, readyText, startedText}
+use Rattle.outcome.specs.Outcome.{replyText, runText}
+use Rattle.rating.specs.Rated.{lentFor, readyText, startedText}
 use Rattle.image_runner.specs.Runner.{roomFor, imageText, answerOf}
 use Rattle.image_runner.specs.Shown.{Refuses, Reports, Shown}
 

@@ -36,7 +36,8 @@ use Rattle.text.specs.Cases.{digits, line, worked}
 use Rattle.report.specs.Hex.{digitOfValue, hexOf}
 use Rattle.report.specs.Report.{endLine, registerLine, registerLines, stateLine, reportOf, refusalOf}
 use Rattle.image_names.specs.Named.{internOn, internAll}
-use Rattle.rating.specs.Rated.{replyText, runText, readyText, startedText}
+use Rattle.outcome.specs.Outcome.{replyText, runText}
+use Rattle.rating.specs.Rated.{readyText, startedText}
 use Rattle.image_runner.specs.Runner.{roomFor, imageText, answerOf}
 
 -- a header that asks for one page

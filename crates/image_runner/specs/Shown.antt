@@ -8,7 +8,7 @@ use Rattle.anomaly.specs.Table.{isRefusal}
 use Rattle.report.specs.Report.{reportOf, refusalOf}
 use Rattle.vm.specs.declared.State.{State}
 use Rattle.vm.specs.Listed.{Listed}
-use Rattle.rating.specs.Rated.{summaryOf}
+use Rattle.outcome.specs.Outcome.{summaryOf}
 
 -- 'A refusal .. is its number alone in two digits': one of the table
 pub record Refuses (text : List ℕ) : Type 0 where

@@ -6,7 +6,7 @@ ghost use lib.ListN.{length};
 ghost use Rattle.report.specs.Report.{longest};
 ghost use Rattle.text.specs.Text.{textOk, headOf};
 ghost use Rattle.text.specs.Sections.{sectionIn};
-ghost use Rattle.rating.specs.Rated.{WritesText};
+ghost use Rattle.outcome.specs.Outcome.{WritesText};
 ghost use Rattle.image_runner.specs.Runner.{roomFor, imageText, answerOf};
 use anomaly::Refusal;
 use gc::PAGE_SIZE;

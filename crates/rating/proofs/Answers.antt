@@ -1,39 +1,32 @@
 -- What the calls of a rating come to in the runner's text. Assumes nothing.
 use mathlib.Core.Path.{_≡_, refl, ap, _∙_}
-use Prim.Native.Nat.{ℕ, _+_, _≤_}
+use Prim.Native.Nat.{ℕ, _≤_}
 use mathlib.Core.Bool.{true}
 use mathlib.Core.List.{List, [], _∷_}
 use native.Mathlib.Omega.{arith}
-use native.Mathlib.Nat.{zero-add}
 use lib.ListN.{length}
 use lib.Dec.{leb}
 use borrow.Author.Tests.{leb-true}
 use types.Run.{OneOf, miss}
 use denote.Enum.Declared.{tagOf}
-use Rattle.memory.specs.Lists.{write, Written}
 use Rattle.memory.proofs.Tests.{both}
-use Rattle.anomaly.specs.declared.End.{End}
-use Rattle.anomaly.proofs.End as ends
-use Rattle.anomaly.specs.Table.{numberOfEnd, pcOfEnd, stepsOfEnd}
 use Rattle.text.specs.declared.Head.{Head}
 use Rattle.text.specs.declared.sections.Section.the-variants.{Globals}
 use Rattle.text.specs.Lines.{linesOf}
 use Rattle.text.specs.Text.{textOk}
 use Rattle.text.specs.Sections.{sectionIn}
 use Rattle.text.specs.Names.{namesOf}
-use Rattle.report.specs.Report.{longest, reportOf, refusalOf}
 use Rattle.program.specs.Image.{Image}
 use Rattle.program.specs.Words.{imageIn}
 use Rattle.vm.specs.Machine.{Lent, Machine, Answer, value, done, refused, Called, run, perform, Started, declined, begun, start}
-use Rattle.vm.specs.declared.State.{State}
 use Rattle.vm.specs.declared.Reply.{Reply}
 use Rattle.vm.proofs.Reply as replies
-use Rattle.vm.specs.Told.{answerOf, saidOf, startedOn}
+use Rattle.vm.specs.Told.{saidOf, startedOn}
 use Rattle.image_words.specs.Said.{imageWith}
 use Rattle.image_words.specs.Joined.{joined}
 use Rattle.image_words.proofs.Joins.{image-joined}
 use Rattle.image_names.specs.Named.{internAll}
-use Rattle.rating.specs.Rated.{WritesText, summaryOf, replyText, runText, answerText}
+use Rattle.outcome.specs.Outcome.{WritesText, replyText, answerText}
 use Rattle.rating.specs.Rated.{readyText, namedText, startedText}
 
 -- ---- the start
@@ -111,26 +104,3 @@ says-as before after r t u e h = rw (← e) h
 pub text-short : (s : List ℕ) → textOk s ≡ true → length s ≤ 65536
 unfolding textOk
 text-short s h = leb-true (length s) 65536 (both (leb (length s) 65536) _ h .0)
-
-pub nothing-said : (r : Reply) → OneOf (0 ∷ 1 ∷ []) (tagOf replies.the-type r) → replyText (saidOf r) ≡ []
-unfolding saidOf replyText
-nothing-said (Reply.Value v) is = refl
-nothing-said Reply.Done is = refl
-nothing-said (Reply.Refused why) is = absurd (miss (0 ∷ 1 ∷ []) 2 tt is)
-
--- the tags of an end: Halt 0, the budget 1, stopped 2, refused 3
-pub run-reported : (end : End) → OneOf (0 ∷ 1 ∷ 2 ∷ []) (tagOf ends.the-type end) → (s : State)
-    → runText (answerOf end) s ≡ reportOf (summaryOf (numberOfEnd end) (pcOfEnd end) (stepsOfEnd end) s) (s .regs)
-unfolding answerOf runText
-run-reported (End.Halt pc steps) is s = refl
-run-reported (End.Budget pc steps) is s = refl
-run-reported (End.Stopped why) is s = refl
-run-reported (End.Refused why) is s = absurd (miss (0 ∷ 1 ∷ 2 ∷ []) 3 tt is)
-
-pub written-says : (text before after : List ℕ) (r : ℕ) → Written before 0 text after r → r ≤ longest → WritesText before text after r
-unfolding write
-written-says text before after r w h = (w .ends ∙ zero-add (length text), w .is, h)
-
-pub refusal-says : (k : ℕ) (before after : List ℕ) (r : ℕ) → Written before 0 (refusalOf k) after r → r ≡ 0 + 3
-    → WritesText before (refusalOf k) after r
-refusal-says k before after r w e = written-says (refusalOf k) before after r w (omega arith)

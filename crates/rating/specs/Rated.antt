@@ -1,61 +1,25 @@
 -- A rating: what is written of an image that is started, has its names interned and is run. Definitions only.
-use Prim.Native.Nat.{ℕ, _*_, _≤_}
-use mathlib.Core.Path.{_≡_}
-use mathlib.Core.List.{List, []}
-use lib.ListN.{length, replicate}
-use Rattle.memory.specs.Lists.{over}
+use Prim.Native.Nat.{ℕ, _*_}
+use mathlib.Core.List.{List}
+use lib.ListN.{replicate}
 use Rattle.gc.specs.Lent.{pageSize}
 use Rattle.text.specs.declared.Head.{Head}
 use Rattle.text.specs.declared.sections.Section.the-variants.{Globals}
 use Rattle.text.specs.Lines.{linesOf}
 use Rattle.text.specs.Sections.{sectionIn}
 use Rattle.text.specs.Names.{namesOf}
-use Rattle.report.specs.declared.Summary.{Summary}
-use Rattle.report.specs.Report.{reportOf, longest, refusalOf}
 use Rattle.program.specs.Image.{Image}
-use Rattle.vm.specs.declared.State.{State}
-use Rattle.vm.specs.Machine.{Lent, Machine, Answer, ended, value, done, refused, Called, run, perform, Started, declined, begun}
+use Rattle.vm.specs.Machine.{Lent, Machine, Answer, ended, value, done, refused, run, perform, Started, declined, begun}
 use Rattle.vm.specs.Told.{lentOf}
 use Rattle.image_words.specs.Said.{imageWith}
 use Rattle.image_names.specs.Named.{Interned, internAll}
+use Rattle.outcome.specs.Outcome.{replyText, answerText}
 
 -- the buffers that the header asks for
 abbrev pub lentFor : Head → Lent
 lentFor h = lentOf (replicate (h .frames) 0) (replicate (h .pages * pageSize) 0) (replicate (h .slots) 0) (replicate (h .slots) 0)
 
 -- ---- what is written
-
-abbrev pub summaryOf : ℕ → ℕ → ℕ → State → Summary
-summaryOf e pc steps s = record {
-  end = e;
-  pc = pc;
-  steps = steps;
-  depth = s .depth;
-  pushed = s .gc .pushed;
-  len = s .gc .len;
-  strings = s .strings .len;
-}
-
--- 'A refusal, of an interning too, is its number alone in two digits'
-unfoldable pub replyText : Answer → List ℕ
-replyText (refused e) = refusalOf e
-replyText (value v) = []
-replyText done = []
-replyText (ended e pc steps) = []
-
--- of a run: its report, or the number by which it was refused
-unfoldable pub runText : Answer → State → List ℕ
-runText (ended e pc steps) s = reportOf (summaryOf e pc steps s) (s .regs)
-runText (refused e) s = refusalOf e
-runText (value v) s = []
-runText done s = []
-
-abbrev pub answerText : Called → List ℕ
-answerText c = runText (c .answer) (c .machine .state)
-
--- `after` begins with a text of r bytes, no longer than the longest report, and is else as `before` was
-abbrev pub WritesText : List ℕ → List ℕ → List ℕ → ℕ → Type 0
-WritesText before text after r = (r ≡ length text) × (after ≡ over text before) × (r ≤ longest)
 
 -- 'It runs from pc 0' once all names are there
 unfoldable pub readyText : Answer → Image → ℕ → Machine → List ℕ

@@ -3,7 +3,7 @@ use mathlib.Core.Path.{_≡_, sym, _∙_}
 use mathlib.Core.Bool.{true}
 use Rattle.text.specs.Text.{textOk, headOf}
 use Rattle.image_runner.specs.Runner.{answerOf}
-use Rattle.rating.proofs.Answers.{refusal-says}
+use Rattle.outcome.proofs.Texts.{refusal-says}
 use Rattle.image_runner.proofs.Readings.{read-head, read-nothing}
 use borrow.Author.Needs.{needs}
 use Rattle.image_runner.proofs.answer.Statement.{statement}

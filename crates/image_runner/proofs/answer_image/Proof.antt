@@ -6,7 +6,7 @@ use lib.ListN.{length-replicate}
 use borrow.Author.Tests.{not-true, not-false}
 use Rattle.text.proofs.Numbers.{budget-small}
 use Rattle.image_runner.specs.Runner.{imageText}
-use Rattle.rating.proofs.Answers.{refusal-says}
+use Rattle.outcome.proofs.Texts.{refusal-says}
 use Rattle.image_runner.proofs.Limits.{Fits, fitting, words-room}
 use Rattle.image_runner.proofs.Parts.{Part, words-part, zeros-part, lent-of-parts}
 use borrow.Author.Needs.{needs}

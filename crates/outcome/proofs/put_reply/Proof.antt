@@ -1,13 +1,13 @@
--- `rating::put_reply` meets its contract. Assumes nothing.
+-- `outcome::put_reply` meets its contract. Assumes nothing.
 use mathlib.Core.Path.{refl}
 use lib.Dec.{lit≤}
 use Rattle.memory.specs.Lists.{over}
 use Rattle.vm.specs.Told.{saidOf}
-use Rattle.rating.specs.Rated.{replyText}
-use Rattle.rating.proofs.Answers.{refusal-says, nothing-said}
+use Rattle.outcome.specs.Outcome.{replyText}
+use Rattle.outcome.proofs.Texts.{refusal-says, nothing-said}
 use borrow.Author.Needs.{needs}
-use Rattle.rating.proofs.put_reply.Statement.{statement}
-use Rattle.rating.proofs.put_reply.Tie as tie
+use Rattle.outcome.proofs.put_reply.Statement.{statement}
+use Rattle.outcome.proofs.put_reply.Tie as tie
 
 returns : tie.Need-returns
 unfolding over

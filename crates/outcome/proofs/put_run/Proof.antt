@@ -1,8 +1,8 @@
--- `rating::put_run` meets its contract. Assumes nothing.
-use Rattle.rating.proofs.Answers.{written-says}
+-- `outcome::put_run` meets its contract. Assumes nothing.
+use Rattle.outcome.proofs.Texts.{written-says}
 use borrow.Author.Needs.{needs}
-use Rattle.rating.proofs.put_run.Statement.{statement}
-use Rattle.rating.proofs.put_run.Tie as tie
+use Rattle.outcome.proofs.put_run.Statement.{statement}
+use Rattle.outcome.proofs.put_run.Tie as tie
 
 returns : tie.Need-returns
 returns c =

@@ -1,10 +1,10 @@
--- `rating::put_ran` meets its contract. Assumes nothing.
+-- `outcome::put_ran` meets its contract. Assumes nothing.
 use Rattle.vm.specs.Told.{answerOf}
-use Rattle.rating.specs.Rated.{runText}
-use Rattle.rating.proofs.Answers.{refusal-says, run-reported}
+use Rattle.outcome.specs.Outcome.{runText}
+use Rattle.outcome.proofs.Texts.{refusal-says, run-reported}
 use borrow.Author.Needs.{needs}
-use Rattle.rating.proofs.put_ran.Statement.{statement}
-use Rattle.rating.proofs.put_ran.Tie as tie
+use Rattle.outcome.proofs.put_ran.Statement.{statement}
+use Rattle.outcome.proofs.put_ran.Tie as tie
 
 returns : tie.Need-returns
 returns c =

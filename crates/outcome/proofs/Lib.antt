@@ -1,0 +1,2 @@
+-- What a run and a reply come to in the text.
+pub mod Texts

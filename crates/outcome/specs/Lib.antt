@@ -1,0 +1,2 @@
+-- What is written of a run, or of a reply.
+pub mod Outcome
