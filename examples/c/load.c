@@ -110,7 +110,7 @@ int main(int argc, char **argv)
     damaged("the code's end one less", count, 0, (uint8_t)(file[0] - 1));
     damaged("the code's end 2^56 more", count, 7, 1);
     damaged("the last Halt a Nop", count, code_end - 8, 60);
-    damaged("an opcode that is none", count, code, 61);
+    damaged("an opcode that is none", count, code, 255);
     damaged("a register that is none", count, code + 1, 32);
     damaged("a global past the last one", count, code + 4, 5);
     damaged("a table's target past the code", count, globals_end + 16, 13);

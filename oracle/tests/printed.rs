@@ -325,7 +325,7 @@ fn the_example_that_loads_words() {
         ("the code's end one less", whole, 0, file[0] - 1),
         ("the code's end 2^56 more", whole, 7, 1),
         ("the last Halt a Nop", whole, code_end - 8, op::Nop),
-        ("an opcode that is none", whole, code, 61),
+        ("an opcode that is none", whole, code, 255),
         ("a register that is none", whole, code + 1, 32),
         ("a global past the last one", whole, code + 4, 5),
         ("a table's target past the code", whole, globals_end + 16, 13),
