@@ -63,16 +63,13 @@ unfolding startedText replyText
 start-shown s h (declined e) n = inl (refuses e n)
 start-shown s h (begun m) n = names-shown _ (h .budget) _ _ (names-answer (namesOf 0 (linesOf s)) m (sectionIn _ s))
 
-image-shown : (s : List ℕ) (h : Head) (b : Bool) → Shown (h .budget) (imageText b s h)
-unfolding imageText
-image-shown s h true = start-shown s h _ (start-answers (imageSaid s) (h .base) (lentFor h))
-image-shown s h false = inl (refuses 10 refl)
-
 -- any input: its text is refused by a number, or comes to a listed end within the budget that its header says
 pub answer-shown : (s : List ℕ) → Shown (headOf s .budget) (answerOf s)
-unfolding answerOf
-answer-shown s = by (textOk s) refl
+unfolding answerOf imageText
+answer-shown s = by (textOk s) (roomFor (headOf s) s) refl refl
   where
-    by : (b : Bool) → textOk s ≡ b → Shown (headOf s .budget) (answerOf s)
-    by true e = rw e (image-shown s (headOf s) (roomFor (headOf s) s))
-    by false e = rw e (inl (refuses 19 refl))
+    by : (t r : Bool) → textOk s ≡ t → roomFor (headOf s) s ≡ r → Shown (headOf s .budget) (answerOf s)
+    by true true e f = simp (e, f) (start-shown s (headOf s) _ (start-answers (imageSaid s) (headOf s .base) (lentFor (headOf s))))
+    by true false e f = simp (e, f) (inl (refuses _ refl))
+    by false true e f = simp (e, f) (inl (refuses _ refl))
+    by false false e f = simp (e, f) (inl (refuses _ refl))

@@ -10,7 +10,7 @@ use Rattle.anomaly.specs.Table.{isRefusal}
 use Rattle.program.specs.Image.{test, failing}
 use Rattle.vm.specs.Core.{used, needs, short, setMemory}
 use Rattle.vm.specs.Names.{Given}
-use Rattle.vm.specs.Machine.{Machine, sizes, memoryOf, view, Setting, Host, Call, run, setting, host, hosted, granted, hostCall, act}
+use Rattle.vm.specs.Machine.{Machine, sizes, view, Setting, Host, Call, run, setting, host, granted, hostCall, act}
 use Rattle.vm.specs.Machine.{found, tests, tried, perform}
 use Rattle.vm.specs.Listed.{SettingAnswer, HostAnswer, CallAnswer}
 use Rattle.vm.proofs.Fits.{take-fits}
@@ -40,7 +40,7 @@ unfolding perform tried act hostCall
 host-answers k m = by (failing (tests (host k) (m .state) (m .lent))) refl
   where
     by : (o : Option ℕ) → failing (tests (host k) (m .state) (m .lent)) ≡ o → HostAnswer (tried o (host k) m .answer)
-    by none f = granted-answers k m (hosted k (memoryOf m)) _ refl
+    by none f = granted-answers k m _ _ refl
     by (some e) f = tests-listed (host k) m e f
 
 pub setting-answers : (k : Setting) (m : Machine) → SettingAnswer (perform (setting k) m .answer)

@@ -20,8 +20,8 @@ use Rattle.vm.specs.Core.{Core, Sizes, used, short, setFrames}
 use Rattle.program.specs.Image.{Image, Test, test, imageOk, endsInHalt, below, wordTest, wordTests, counts, imageTests, failing}
 use Rattle.vm.specs.Run.{Step, next, halted, stop, step, after, go, root, entered}
 use Rattle.vm.specs.Names.{Given}
-use Rattle.vm.specs.Machine.{Lent, Machine, sizes, memoryOf, view, Call, run, setting, host, Host, Answer, ended, value, done, refused}
-use Rattle.vm.specs.Machine.{ran, idle, runs, runCall, act, hosted, granted, hostCall, framesOk, heapOk, returnsOk}
+use Rattle.vm.specs.Machine.{Lent, Machine, sizes, view, Call, run, setting, host, Host, Answer, ended, value, done, refused}
+use Rattle.vm.specs.Machine.{ran, idle, runs, runCall, act, granted, hostCall, framesOk, heapOk, returnsOk}
 use Rattle.vm.specs.Machine.{framesBelong, pagesBelong, found, testsBy, tests, tried, perform, starts, buffersOk, start}
 use Rattle.vm.proofs.Fits.{fits-of, view-fits}
 use Rattle.program.proofs.Tests.{failing-cons}
@@ -226,7 +226,7 @@ act-refused : (k : Call) (m : Machine) (e : ℕ) → act k m .answer ≡ refused
 unfolding act runCall hostCall
 act-refused (run im b) m e h = absurd (runs-ends (sizes (m .lent)) im b (length (im .code)) (view m) e h)
 act-refused (setting k) m e h = cc
-act-refused (host k) m e h = granted-refused _ k m (hosted k (memoryOf m)) e h
+act-refused (host k) m e h = granted-refused _ k m _ e h
 
 -- 'a refusal changes no buffer', nor the state: of every call, and with the numbers of running out as well
 pub refusal-changes-nothing : (k : Call) (m : Machine) (e : ℕ) → perform k m .answer ≡ refused e → perform k m .machine ≡ m
