@@ -1,5 +1,7 @@
 // Lent memory: little-endian numbers in bytes, copies and clears. Every write to the heap goes through
 // these.
+#![tactic(auto)]
+
 ghost use Rattle.std.specs.Prelude.{◌≡◌, ◌+◌, ◌≤◌, ◌<◌, ◌^◌, length, replicate};
 ghost use Rattle.memory.specs.Bytes.{bytes_of, number};
 ghost use Rattle.memory.specs.Lists.{over, write};

@@ -1,0 +1,11 @@
+-- `memory::copy_bytes` its loops. Assumes nothing.
+use Prim.Native.Nat.{◌-◌}
+use lib.ListN.{length}
+use Rattle.memory.proofs.Fills.{Copied}
+use Rattle.memory.proofs.copy_bytes.Given as goal
+
+abbrev pub invariant-loop-i : goal.invariant-loop-i
+invariant-loop-i l = Copied l.from l.initial.to l.to l.i
+
+abbrev pub decreases-loop-i : goal.decreases-loop-i
+decreases-loop-i l = length l.from - l.i
