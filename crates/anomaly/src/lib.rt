@@ -1,5 +1,7 @@
 // What stops a run, what refuses a call, and how a run ends. Each has its number in document 01, 'Ends and numbers':
 // the constants below, and the definitions of specs/Table.antt.
+#![tactic(auto)]
+
 ghost use Rattle.std.specs.Prelude.{◌≡◌, true};
 ghost use Rattle.anomaly.specs.Table.{number_of_anomaly, pc_of_anomaly, steps_of_anomaly, is_anomaly};
 ghost use Rattle.anomaly.specs.Table.{number_of_refusal, is_refusal};
@@ -9,7 +11,7 @@ ghost use Rattle.anomaly.specs.Table.{number_of_end, pc_of_end, steps_of_end};
 pub type Steps = u32;
 
 // Why an instruction stops a run: its place, and the steps completed before it.
-#[derive(Drop)]
+#[derive(Clone, Copy)]
 pub enum Anomaly {
     DivisionByZero { pc: usize, steps: Steps },
     AllocationFailed { pc: usize, steps: Steps },
@@ -98,7 +100,7 @@ impl Anomaly {
 }
 
 // Why a call is refused.
-#[derive(Drop)]
+#[derive(Clone, Copy)]
 pub enum Refusal {
     // An allocation that the lent heap has no room for.
     Memory,
@@ -192,7 +194,7 @@ impl Refusal {
 }
 
 // What a run answers.
-#[derive(Drop)]
+#[derive(Clone, Copy)]
 pub enum End {
     // At a Halt, or with nothing to run.
     Halt { pc: usize, steps: Steps },

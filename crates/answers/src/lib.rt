@@ -1,4 +1,6 @@
 // What a call returns and writes: its number, the words of the state, and what is answered beside the number.
+#![tactic(auto)]
+
 ghost use Rattle.std.specs.Prelude.{◌≡◌, [], ◌∷◌, ◌≤◌, length};
 ghost use Rattle.vm.specs.Told.{said_of, option_of, holding};
 ghost use Rattle.vm.specs.Told.{answer_of};

@@ -1,4 +1,6 @@
 // A stored answer, compared with the image runner's.
+#![tactic(auto)]
+
 ghost use Rattle.std.specs.Prelude.{◌≡◌};
 ghost use Rattle.memory.specs.Lists.{same};
 ghost use Rattle.image_runner.specs.Runner.{answer_of};

@@ -1,6 +1,8 @@
 // From a word to its instruction. `decode` is for the loop of a run alone, and each function here for the range of opcodes that
 // its one caller gives it: the compiler then puts them all into the loop. A second caller would make the loop slower, and so would
 // a function or a table for each format: one long match a range of opcodes is what ran fastest (docs/DECISIONS.md, 20 and 21).
+#![tactic(auto)]
+
 ghost use Rattle.std.specs.Prelude.{◌≡◌, ◌%◌, ◌<◌, ◌≤◌};
 ghost use Rattle.op.specs.Decode.{opcodes, decode_of, checked_of};
 

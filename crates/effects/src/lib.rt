@@ -1,8 +1,10 @@
 // What an instruction asks for: the effects, and what is read of an image for them. The crate `meaning` has which instruction asks for which.
+#![tactic(auto)]
+
 pub mod tables;
 
 // What an instruction asks for, once its registers are read.
-#[derive(Drop)]
+#[derive(Clone, Copy)]
 pub enum Effect {
     // register, value
     Set(usize, u64),

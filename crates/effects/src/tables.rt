@@ -12,7 +12,7 @@ use string::ALIGN;
 const UNLISTED: u64 = 255;
 
 // What a table has for a subject.
-#[derive(Drop)]
+#[derive(Clone, Copy)]
 enum Entry {
     At(u64),
     Missing,

@@ -1,5 +1,7 @@
 // The heap: pages of a lent slice, pushed in sequence, and blocks in the last of them. Nothing is
 // freed.
+#![tactic(auto)]
+
 ghost use Rattle.std.specs.Prelude.{◌≡◌, ◌+◌, ◌≤◌, ◌<◌, length};
 ghost use Rattle.memory.specs.Lists.{over};
 ghost use Rattle.gc.specs.Metadata.{bits_of, flags_of, header_of};
@@ -18,7 +20,7 @@ const PAYLOAD_ALIGN: usize = 8;
 const GROWTH: usize = Metadata::SIZE + PAYLOAD_ALIGN;
 
 // What a block holds.
-#[derive(Drop)]
+#[derive(Clone, Copy)]
 pub enum AllocType {
     Record,
     Array,
@@ -58,7 +60,7 @@ impl AllocType {
 //     +-------------------+-------------------+
 //     | size: 8 bytes     | flags, 7 x zero   |
 //     +-------------------+-------------------+
-#[derive(Drop)]
+#[derive(Clone, Copy)]
 pub struct Metadata {
     pub size: u64,
     pub flags: u8,
@@ -93,7 +95,7 @@ impl Metadata {
 }
 
 // The heap's base address, how many bytes of pages are pushed, and the last page's place and length.
-#[derive(Drop)]
+#[derive(Clone, Copy)]
 pub struct Gc {
     pub base: u64,
     pub pushed: usize,
@@ -102,14 +104,14 @@ pub struct Gc {
 }
 
 // A block's address and the heap's numbers with it; or no block.
-#[derive(Drop)]
+#[derive(Clone, Copy)]
 pub enum Alloc {
     At(u64, Gc),
     Refused,
 }
 
 // The heap's numbers with one page more; or no page.
-#[derive(Drop)]
+#[derive(Clone, Copy)]
 pub enum Grown {
     To(Gc),
     Full,

@@ -1,4 +1,6 @@
 // The machine's calls for C and Rust: include/girzhanok.h says what each one takes and writes. A call on too few words is refused with 10.
+#![tactic(auto)]
+
 ghost use Rattle.std.specs.Prelude.{◌≡◌, [], ◌∷◌};
 ghost use Rattle.program.specs.Words.{image_in};
 ghost use Rattle.vm.specs.Machine.{Lent, lend_frames, lend_heap, lend_run, lend_names, run, setting, reset, put_pc, put_reg, host, allocate, option, intern, intern_small};

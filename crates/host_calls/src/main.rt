@@ -1,4 +1,6 @@
 // Each of the machine's calls, with a refused one of each number from 9 to 18 and the ends 0, 1, 5 and 8, printed: a label, and what was answered.
+#![tactic(auto)]
+
 use anomaly::{End, Steps};
 use libc::STDOUT_FILENO;
 use run::Ran;

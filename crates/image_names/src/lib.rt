@@ -1,4 +1,6 @@
 // The names of an image: each interned, its value the global that its line stands for.
+#![tactic(auto)]
+
 ghost use Rattle.std.specs.Prelude.{◌≡◌, ◌≤◌, length};
 ghost use Rattle.text.specs.Lines.{lines_of};
 ghost use Rattle.text.specs.Names.{names_of};

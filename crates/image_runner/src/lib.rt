@@ -1,4 +1,6 @@
 // The image runner: from the text of an image to the text of its report, within the runner's limits.
+#![tactic(auto)]
+
 ghost use Rattle.std.specs.Prelude.{◌≡◌, true, ◌≤◌, length};
 ghost use Rattle.report.specs.Report.{longest};
 ghost use Rattle.text.specs.Text.{text_ok, head_of};

@@ -1,4 +1,6 @@
 // An image as words: the sections that its text says, one behind the other, and their ends in front.
+#![tactic(auto)]
+
 ghost use Rattle.std.specs.Prelude.{◌≡◌, [], ◌∷◌, ◌+◌, ◌≤◌, length, take};
 ghost use Rattle.memory.specs.Lists.{over, Written};
 ghost use Rattle.text.specs.Sections.{section_in};

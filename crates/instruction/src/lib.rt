@@ -1,4 +1,6 @@
 // One instruction: what it asks for, done to registers, frames and heap.
+#![tactic(auto)]
+
 ghost use Rattle.std.specs.Prelude.{◌≡◌, ℕ, ◌+◌, ◌^◌, ◌<◌, ◌≤◌, List, length};
 ghost use Rattle.gc.specs.Lent.{InHeap};
 ghost use Rattle.effects.specs.declared.Effect.{Effect};
@@ -12,7 +14,7 @@ use effects::Effect;
 use gc::{Alloc, AllocType, Gc, HEAP_END, Metadata};
 
 // What changes from instruction to instruction, beside registers, frames and heap.
-#[derive(Drop)]
+#[derive(Clone, Copy)]
 pub struct Position {
     pub pc: usize,
     pub depth: usize,
@@ -20,7 +22,7 @@ pub struct Position {
 }
 
 // What an instruction comes to. A stop has its end's number, and nothing was done.
-#[derive(Drop)]
+#[derive(Clone, Copy)]
 pub enum Turn {
     Next(Position),
     Halt,
@@ -28,7 +30,7 @@ pub enum Turn {
 }
 
 // Where in the heap an address lies.
-#[derive(Drop)]
+#[derive(Clone, Copy)]
 enum Place {
     At(usize),
     Outside,

@@ -1,4 +1,6 @@
 // Known answers of the crates below the machine, printed: a label, a number in hexadecimal.
+#![tactic(auto)]
+
 ghost use Rattle.std.specs.Prelude.{◌≡◌, length};
 
 use gc::{Alloc, AllocType, Gc, Metadata};

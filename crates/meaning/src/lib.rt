@@ -1,5 +1,7 @@
 // The meaning of every `Op`, as the effect that it asks for. `word_effect` is for the loop of a run alone, and each function below it is tiny or
 // has one call site: the compiler then puts them all into the loop.
+#![tactic(auto)]
+
 ghost use Rattle.std.specs.Prelude.{◌≡◌, ◌<◌, if◌then◌else◌, slice_index};
 ghost use Rattle.op.specs.Operands.{Instruction};
 ghost use Rattle.op.specs.Decode.{decode_of};

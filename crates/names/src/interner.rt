@@ -16,14 +16,14 @@ use string::{fxhash, payload};
 use vm::{Reply, lent};
 
 // What comes of the tests of an interning.
-#[derive(Drop)]
+#[derive(Clone, Copy)]
 enum Tested {
     Passed,
     Failed(Refusal),
 }
 
 // A reply to an interning, and the numbers that it leaves of the heap and the table: it needs nothing else of a state.
-#[derive(Drop)]
+#[derive(Clone, Copy)]
 pub struct Interned {
     pub reply: Reply,
     pub gc: Gc,

@@ -1,4 +1,6 @@
 // Interning over a state: the machine's two calls. `interner` has them over the numbers that they need.
+#![tactic(auto)]
+
 ghost use Rattle.std.specs.Prelude.{◌≡◌};
 ghost use Rattle.vm.specs.Machine.{Lent, lend_names, intern, intern_small, host, perform};
 ghost use Rattle.vm.specs.Told.{machine_of, told};

@@ -25,6 +25,8 @@
 //  +--------+--------+---------+---------+--------+
 //
 // What is empty here is zero. `imm` and `value` are signed; `Op` has them 64 bits wide.
+#![tactic(auto)]
+
 ghost use Rattle.std.specs.Prelude.{◌≡◌};
 ghost use Rattle.op.specs.Decode.{refusal_of};
 
@@ -42,7 +44,7 @@ const OPCODES: usize = 61;
 // The number of a register. All fields of `Op` are 8 bytes wide: with narrower ones the loop of a run is slower.
 pub type Reg = usize;
 
-#[derive(Drop)]
+#[derive(Clone, Copy)]
 pub enum Op {
     // r[dst] = r[lhs] + r[rhs]
     IAdd {
@@ -334,7 +336,7 @@ impl Op {
 }
 
 // What a word means.
-#[derive(Drop)]
+#[derive(Clone, Copy)]
 pub enum Decoded {
     Op(Op),
     Refused(u64),
@@ -353,7 +355,7 @@ impl Decoded {
 }
 
 // How many words, globals and tables of each kind an image has.
-#[derive(Drop)]
+#[derive(Clone, Copy)]
 pub struct Counts {
     pub code: usize,
     pub globals: usize,
@@ -362,7 +364,7 @@ pub struct Counts {
 }
 
 // Whether an image may hold a word.
-#[derive(Drop)]
+#[derive(Clone, Copy)]
 pub enum Checked {
     Fine,
     Refused(u64),

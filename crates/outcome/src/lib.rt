@@ -1,4 +1,6 @@
 // What is written of a run, or of a reply: the report, or the number of a refusal.
+#![tactic(auto)]
+
 ghost use Rattle.std.specs.Prelude.{◌≤◌, length};
 ghost use Rattle.anomaly.specs.Table.{number_of_end, pc_of_end, steps_of_end};
 ghost use Rattle.report.specs.Report.{longest, report_of};

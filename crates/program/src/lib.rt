@@ -1,4 +1,6 @@
 // What a machine is lent to run: an image, and what is refused of it.
+#![tactic(auto)]
+
 pub mod loader;
 
 // The ends of an image's sections, before the first of them: code, globals, of the `Switch` tables firsts, ends and entries, the same of `Lookup`,

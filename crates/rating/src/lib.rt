@@ -1,4 +1,6 @@
 // A rating: an image is started, its names are interned, it is run, and what comes of it is written.
+#![tactic(auto)]
+
 ghost use Rattle.std.specs.Prelude.{◌≡◌, true, ◌≤◌, ◌<◌, ◌^◌, length};
 ghost use Rattle.report.specs.Report.{longest};
 ghost use Rattle.text.specs.Text.{text_ok};

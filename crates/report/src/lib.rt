@@ -1,5 +1,7 @@
 // The text that ends a run: where the machine stands, or the number of a refusal. Every line ends
 // with a line feed.
+#![tactic(auto)]
+
 ghost use Rattle.std.specs.Prelude.{◌≡◌, ◌+◌, ◌*◌, ◌≤◌, ◌<◌, length};
 ghost use Rattle.memory.specs.Lists.{Written};
 ghost use Rattle.report.specs.Hex.{digit_of_value, hex_of};
@@ -14,7 +16,7 @@ const LETTERS: u8 = b'a' - 10;
 
 // What a report shows beside the registers. `pushed` counts the bytes of pushed pages, `len`
 // is the length of the last page, `strings` the count of stored names.
-#[derive(Drop)]
+#[derive(Clone, Copy)]
 pub struct Summary {
     pub end: u64,
     pub pc: usize,

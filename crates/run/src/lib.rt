@@ -1,4 +1,6 @@
 // A run: instructions one after another, until one halts or stops it or the budget is completed.
+#![tactic(auto)]
+
 ghost use Rattle.std.specs.Prelude.{◌≡◌, true, ◌||◌, length, ◌==◌};
 ghost use Rattle.std.proofs.Math.Option.{none};
 ghost use Rattle.anomaly.specs.Table.{is_anomaly};
@@ -18,7 +20,7 @@ use program::{HEADER, loader};
 use vm::{State, lent};
 
 // A run's end, by number, where it ended, and the steps completed.
-#[derive(Drop)]
+#[derive(Clone, Copy)]
 struct Ended {
     ending: u64,
     at: Position,
@@ -26,7 +28,7 @@ struct Ended {
 }
 
 // What a run is answered with, and the state after it.
-#[derive(Drop)]
+#[derive(Clone, Copy)]
 pub struct Ran {
     pub end: End,
     pub state: State,

@@ -1,4 +1,6 @@
 // The image runner: an image on standard input, its report on standard output.
+#![tactic(auto)]
+
 mod stdin;
 
 use libc::STDOUT_FILENO;

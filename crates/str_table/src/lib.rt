@@ -1,5 +1,7 @@
 // The table of names: open addressing on the hash with linear probing, at most half full. A slot
 // holds a string's address, or is EMPTY. The active slots are the first of those lent.
+#![tactic(auto)]
+
 ghost use Rattle.std.specs.Prelude.{◌≡◌, ◌+◌, ◌*◌, ◌≤◌, ◌<◌, ◌^◌, length, take, replicate, ltb};
 ghost use Rattle.memory.specs.Lists.{over};
 ghost use Rattle.string.specs.Payload.{holds, small_name};
@@ -13,7 +15,7 @@ use value::Value;
 const EMPTY: u64 = Value::UNDEF.0;
 
 // What probing comes to.
-#[derive(Drop)]
+#[derive(Clone, Copy)]
 pub enum Probe {
     // The value that is looked for.
     Found(u64),
@@ -189,7 +191,7 @@ fn slots_ok(base: u64, pushed: usize, len: usize, slots: &[u64]) -> bool
 }
 
 // How many slots are active, and how many names they hold.
-#[derive(Drop)]
+#[derive(Clone, Copy)]
 pub struct StrTable {
     pub active: usize,
     pub len: usize,

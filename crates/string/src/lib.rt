@@ -1,4 +1,6 @@
 // Strings: their hash, and their payload in the heap.
+#![tactic(auto)]
+
 pub mod fxhash;
 pub mod payload;
 

@@ -54,7 +54,7 @@ pub fn header_in(base: u64, pushed: usize, v: u64) -> bool
 }
 
 // Where in the pushed bytes a string's own bytes start; or it is another.
-#[derive(Drop)]
+#[derive(Clone, Copy)]
 pub enum Payload {
     At(usize),
     Other,

@@ -1,6 +1,8 @@
 // The text of an image: lines of lower-case hexadecimal digits, each a kind of two digits and a
 // payload. `read` refuses a text or gives its header; `gather` lays one section over a buffer;
 // `name` decodes one name. These two take any bytes, and are of use for a text that is not refused.
+#![tactic(auto)]
+
 ghost use Rattle.std.specs.Prelude.{◌≡◌};
 ghost use Rattle.text.specs.Text.{head_of, read_of};
 
@@ -17,7 +19,7 @@ pub use lines::line_end;
 pub const MAX_LEN: usize = 65536;
 
 // The numbers of the header.
-#[derive(Drop)]
+#[derive(Clone, Copy)]
 pub struct Head {
     pub base: u64,
     pub pages: u64,
@@ -27,7 +29,7 @@ pub struct Head {
 }
 
 // What reading comes to.
-#[derive(Drop)]
+#[derive(Clone, Copy)]
 pub enum Reading {
     Image(Head),
     Refused(Refusal),

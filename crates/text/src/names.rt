@@ -7,14 +7,14 @@ use crate::digits::number;
 use crate::lines::{GLOBAL, NAME, kind, line_end, payload_start};
 
 // The index of a name's global and the length of its bytes; or no such name.
-#[derive(Drop)]
+#[derive(Clone, Copy)]
 pub enum Named {
     At { global: usize, len: usize },
     Missing,
 }
 
 // The index of a name's global and the place of its digits; or no such name.
-#[derive(Drop)]
+#[derive(Clone, Copy)]
 enum Spot {
     At {
         global: usize,

@@ -9,7 +9,7 @@ use crate::lines::{GLOBAL, LOOKUP, NAME, SWITCH, WORD, kind, line_end, payload_s
 
 // The parts of an image. Tables of a kind are three lists: the first key of each, where the entries
 // of each end among those of all, and all entries in a row; a lookup table has a default too.
-#[derive(Drop)]
+#[derive(Clone, Copy)]
 pub enum Section {
     Code,
     Globals,

@@ -6,7 +6,7 @@ ghost use Rattle.value.specs.Int.{signed, overflows, quotient_of, remainder_of};
 use crate::Value;
 
 // What a division gives: the pattern of its result, or why it has none.
-#[derive(Drop)]
+#[derive(Clone, Copy)]
 pub enum Divided {
     Exact(u64),
     ByZero,

@@ -1,5 +1,7 @@
 // A register's word. The same 64 bits are read as a truth, as a signed integer or as a binary64 number;
 // the instruction says which.
+#![tactic(auto)]
+
 ghost use Rattle.std.specs.Prelude.{◌≡◌, ◌==◌};
 ghost use Rattle.std.specs.Bool.{beq};
 ghost use Rattle.value.specs.Int.{signed, pattern};
@@ -16,7 +18,7 @@ const INFINITY: u64 = 0x7ff0_0000_0000_0000;
 
 const TWO_63: f64 = 9223372036854775808.0;
 
-#[derive(Drop)]
+#[derive(Clone, Copy)]
 pub struct Value(pub u64);
 
 impl Value {

@@ -6,6 +6,8 @@
 //     -- SOURCE IIIII OOO NAME      a case, whose IIIII bytes of image and OOO bytes of answer follow; both are hexadecimal
 //
 // SOURCE has five characters: `rust ` for an answer that the original gave, `paper` for one that document 01 gives.
+#![tactic(auto)]
+
 ghost use Rattle.std.specs.Prelude.{◌≡◌, length};
 
 use comparison::agrees;
@@ -24,13 +26,13 @@ const ANSWER_DIGITS: usize = 3;
 const NAME_AT: usize = 19;
 
 // How many answers were the stored ones, and how many were not.
-#[derive(Drop)]
+#[derive(Clone, Copy)]
 struct Tally {
     agree: u64,
     differ: u64,
 }
 
-#[derive(Drop)]
+#[derive(Clone, Copy)]
 struct Counts {
     subject: Tally,
     rust: Tally,
@@ -38,7 +40,7 @@ struct Counts {
 }
 
 // The place of the next record. A malformed one has none: `at` is then 0.
-#[derive(Drop)]
+#[derive(Clone, Copy)]
 struct Next {
     at: usize,
     counts: Counts,

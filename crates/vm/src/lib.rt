@@ -1,4 +1,6 @@
 // The machine: what it keeps between calls, and the calls of its host.
+#![tactic(auto)]
+
 ghost use Rattle.std.specs.Prelude.{◌≡◌, ◌≤◌, length};
 ghost use Rattle.memory.specs.Lists.{over};
 ghost use Rattle.vm.specs.Machine.{Lent, lend_frames, lend_heap, reset, put_pc, put_reg, setting, allocate, option, host, done, perform};
@@ -15,7 +17,7 @@ use op::REGISTER_COUNT;
 use str_table::StrTable;
 
 // What a machine keeps. Frames, heap and slots are lent to each call.
-#[derive(Drop)]
+#[derive(Clone, Copy)]
 pub struct State {
     pub regs: [u64; 32],
     pub pc: usize,
@@ -25,7 +27,7 @@ pub struct State {
 }
 
 // What a host's call is answered with.
-#[derive(Drop)]
+#[derive(Clone, Copy)]
 pub enum Reply {
     Value(u64),
     Done,
@@ -33,14 +35,14 @@ pub enum Reply {
 }
 
 // What an option is made of.
-#[derive(Drop)]
+#[derive(Clone, Copy)]
 pub enum Opt {
     None,
     Some(u64),
 }
 
 // A reply, and the state after the call.
-#[derive(Drop)]
+#[derive(Clone, Copy)]
 pub struct Called {
     pub reply: Reply,
     pub state: State,

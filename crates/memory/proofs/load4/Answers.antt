@@ -5,8 +5,7 @@ use borrow.Author.Rules.{rules}
 use Rattle.memory.proofs.load4.Goals as goal
 
 pub returns : goal.returns
-returns c =
-    (
-      omega (arith, c.load2-low.ensures.0, c.load2-high.ensures.0, number-add 2 2 c.args.at c.args.s.now (search rules)),
-      search rules,
-    )
+returns c = (
+  omega (arith, c.load2-low.ensures.0, c.load2-high.ensures.0, number-add 2 2 c.args.at c.args.s.now (search rules)),
+  search rules,
+)

@@ -1,0 +1,5 @@
+-- `value::double::add` meets its contract: the three calls' contracts, put together. Assumes nothing.
+use Rattle.value.proofs.double.add.Goals as goal
+
+pub returns : goal.returns
+returns c = cc

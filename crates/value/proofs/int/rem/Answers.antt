@@ -1,0 +1,16 @@
+-- `value::int::rem` meets its contract. Assumes nothing.
+use Rattle.std.proofs.Common.{rules}
+use Rattle.value.proofs.Divides.{by_zero, overflowed, divisor_above_zero, quotient_in_range, remainder}
+use Rattle.value.proofs.int.rem.Goals as goal
+
+pub returns-then-b-eq0 : goal.returns-then-b-eq0
+returns-then-b-eq0 c = search by_zero
+
+pub returns-then-quotient_overflows : goal.returns-then-quotient_overflows
+returns-then-quotient_overflows c = search overflowed
+
+pub nonzero_rem-x : goal.nonzero_rem-x
+nonzero_rem-x c = search (divisor_above_zero, quotient_in_range)
+
+pub returns : goal.returns
+returns c = search remainder
