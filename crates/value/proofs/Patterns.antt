@@ -13,7 +13,7 @@ held z = to_z w64 (of_z w64 z)
 
 -- an integer of 64 bits is read as it was written
 pub kept : (z : ℤ) → mag z < 2 ^ 63 → held z ≡ z
-kept z h = to_z-of_z (record { sfits = h })
+kept z h = to_z-of_z {w = w64} {z = z} (record { sfits = h })
 
 complement : (n : ℕ) → 2 ^ 64 - 1 - n ≡ 2 ^ 64 - suc n
 complement n = omega arith

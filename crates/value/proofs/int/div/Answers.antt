@@ -1,5 +1,4 @@
 -- `value::int::div` meets its contract. Assumes nothing.
-use Rattle.std.proofs.Common.{rules}
 use Rattle.value.proofs.Divides.{by_zero, overflowed, divisor_above_zero, quotient_in_range, quotient}
 use Rattle.value.proofs.int.div.Goals as goal
 

@@ -1,5 +1,4 @@
 -- `value::int::rem` meets its contract. Assumes nothing.
-use Rattle.std.proofs.Common.{rules}
 use Rattle.value.proofs.Divides.{by_zero, overflowed, divisor_above_zero, quotient_in_range, remainder}
 use Rattle.value.proofs.int.rem.Goals as goal
 
