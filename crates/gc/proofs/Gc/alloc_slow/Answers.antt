@@ -1,13 +1,12 @@
 -- `gc::Gc::alloc_slow` meets its contract. Assumes nothing.
 use Rattle.gc.proofs.Blocks.{slow_refused, slow_granted, fresh-sound}
-use borrow.Author.Rules.{rules}
 use Rattle.gc.proofs.Gc.alloc_slow.Goals as goal
 
 pub returns-in_default : goal.returns-in_default
-returns-in_default c = slow_refused _ _ _ _ c.requires _ _ c.enum_told-1.given.1 c.grow.ensures
+returns-in_default c = slow_refused _ _ _ _ c.requires _ _ c.in_default.is c.grow.ensures
 
 pub alloc_fast-requires : goal.alloc_fast-requires
-alloc_fast-requires c = fresh-sound _ 0 _ _ c.requires _ _ _ c.g-1.given.1 c.grow.ensures
+alloc_fast-requires c = fresh-sound _ 0 _ _ c.requires _ _ _ c.in-To.is c.grow.ensures
 
 pub returns : goal.returns
-returns c = slow_granted _ _ _ _ c.requires _ _ _ c.g-1.given.1 c.grow.ensures _ _ c.alloc_fast.ensures
+returns c = slow_granted _ _ _ _ c.requires _ _ _ c.in-To.is c.grow.ensures _ _ c.alloc_fast.ensures

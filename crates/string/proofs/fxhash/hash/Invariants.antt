@@ -1,0 +1,11 @@
+-- `string::fxhash::hash` its loops. Assumes nothing.
+use Prim.Native.Nat.{◌-◌}
+use lib.ListN.{length}
+use Rattle.string.proofs.Chunks.{Hashing}
+use Rattle.string.proofs.fxhash.hash.Given as goal
+
+abbrev pub invariant-loop-at : goal.invariant-loop-at
+invariant-loop-at l = Hashing l.bytes l.h l.at
+
+abbrev pub decreases-loop-at : goal.decreases-loop-at
+decreases-loop-at l = length l.bytes - l.at
