@@ -1,50 +1,50 @@
 -- `string::payload::bytes_of` meets its contract. Assumes nothing.
+use Rattle.std.proofs.Common.{ap, not}
 use native.Mathlib.Omega.{arith}
 use lib.ListN.{length}
 use Rattle.string.proofs.Strings.{Within, header_found, no_header, other_length, other_hash, cut_short, stands}
-use borrow.Author.Rules.{rules}
 use Rattle.string.proofs.payload.bytes_of.Goals as goal
+use Rattle.string.proofs.payload.bytes_of.Goals.{Else-not-header_in}
 
 -- what the test of the header says of all that comes after it
-abbrev Header : tie.Else1 → Type 0
-Header c = let a = c.before.before.before.args in Within a.base (length a.heap.now) a.v 8
+abbrev Header : Else-not-header_in → Type 0
+Header c = let a = c.args in Within a.base (length a.heap.now) a.v 8
 
-header : (c : tie.Else1) → Header c
-header c = header_found _ _ _ _ c.before.header-in.ensures c.if1.false
-
-header-at-hash : (c : tie.Else2) → Header c.before.before
-header-at-hash c = header c.before.before
+header : (c : Else-not-header_in) → Header c
+header c = header_found _ _ _ _ c.header_in.ensures (ap not c.if-not-header_in.false)
 
 pub returns-then-not-header_in : goal.returns-then-not-header_in
-returns-then-not-header_in c = no_header _ _ _ _ _ _ c.header_in.ensures c.if-not-header_in.true
+returns-then-not-header_in c = no_header _ _ _ _ _ _ c.header_in.ensures (ap not c.if-not-header_in.true)
 
 pub overflow_sub-at : goal.overflow_sub-at
-overflow_sub-at c = omega (arith, header c)
+overflow_sub-at c = omega (arith, header (goal.at.overflow_sub-at c).Else-not-header_in)
 
 pub overflow_add-from : goal.overflow_add-from
-overflow_add-from c = omega (arith, header c)
+overflow_add-from c = omega (arith, header (goal.at.overflow_add-from c).Else-not-header_in)
 
 pub load4-requires : goal.load4-requires
-load4-requires c = omega (arith, header c)
+load4-requires c = omega (arith, header (goal.at.load4-requires c).Else-not-header_in)
 
 pub returns-then-load4-len : goal.returns-then-load4-len
-returns-then-load4-len c = other_length _ _ _ _ _ (header c) _ c.load4.ensures.0 (λ e. omega arith)
+returns-then-load4-len c =
+    other_length _ _ _ _ _ (header (goal.at.returns-then-load4-len c).Else-not-header_in) _ c.load4.ensures.0 (λ e. omega arith)
 
 pub overflow_add-at : goal.overflow_add-at
-overflow_add-at c = omega (arith, header-at-hash c)
+overflow_add-at c = omega (arith, header (goal.at.overflow_add-at c).Else-not-header_in)
 
 pub load4-requires-2 : goal.load4-requires-2
-load4-requires-2 c = omega (arith, header-at-hash c)
+load4-requires-2 c = omega (arith, header (goal.at.load4-requires-2 c).Else-not-header_in)
 
 pub returns-then-load4-hash : goal.returns-then-load4-hash
-returns-then-load4-hash c = other_hash _ _ _ _ _ (header-at-hash c) _ c.load4-2.ensures.0 (λ e. omega arith)
+returns-then-load4-hash c =
+    other_hash _ _ _ _ _ (header (goal.at.returns-then-load4-hash c).Else-not-header_in) _ c.load4-2.ensures.0 (λ e. omega arith)
 
 pub overflow_sub-heap : goal.overflow_sub-heap
-overflow_sub-heap c = omega (arith, header-at-hash c)
+overflow_sub-heap c = omega (arith, header (goal.at.overflow_sub-heap c).Else-not-header_in)
 
 pub returns-then-heap-from : goal.returns-then-heap-from
-returns-then-heap-from c = cut_short _ _ _ _ _ (header-at-hash c) c.if-heap-from.true
+returns-then-heap-from c = cut_short _ _ _ _ _ (header (goal.at.returns-then-heap-from c).Else-not-header_in) c.if-heap-from.true
 
 pub returns : goal.returns
 returns c =
-    stands _ _ _ _ _ (header c) _ _ c.load4.ensures.0 (omega arith) c.load4-2.ensures.0 (omega arith) (omega arith)
+    stands _ _ _ _ _ (header (goal.at.returns c).Else-not-header_in) _ _ c.load4.ensures.0 (omega arith) c.load4-2.ensures.0 (omega arith) (omega arith)
