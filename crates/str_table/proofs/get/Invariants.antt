@@ -1,0 +1,11 @@
+-- `str_table::get` its loops. Assumes nothing.
+use Prim.Native.Nat.{◌-◌}
+use Rattle.string.specs.Payload.{holds}
+use Rattle.str_table.proofs.Probes.{Probing}
+use Rattle.str_table.proofs.get.Given as goal
+
+abbrev pub invariant-loop-k : goal.invariant-loop-k
+invariant-loop-k l = Probing (holds l.base l.heap l.s l.hash) l.slots l.hash l.k l.i
+
+abbrev pub decreases-loop-k : goal.decreases-loop-k
+decreases-loop-k l = l.n - l.k

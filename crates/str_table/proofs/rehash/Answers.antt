@@ -1,0 +1,34 @@
+-- `str_table::rehash` meets its contract. Assumes nothing.
+use mathlib.Core.Path.{sym}
+use native.Mathlib.Omega.{arith}
+use lib.Seq.{length-take-le}
+use Rattle.str_table.proofs.Moves.{front_there, spare-there, rehashed}
+use borrow.Author.Rules.{rules}
+use Rattle.str_table.proofs.rehash.Goals as goal
+
+pub slice_bounds-copy_words-end-2 : goal.slice_bounds-copy_words-end-2
+slice_bounds-copy_words-end-2 c = sym (length-take-le _ _ (search rules))
+
+pub copy_words-requires : goal.copy_words-requires
+copy_words-requires c = omega (arith, length-take-le c.args.active c.args.slots.now (omega arith))
+
+pub slice_bounds-clear_words-end-2 : goal.slice_bounds-clear_words-end-2
+slice_bounds-clear_words-end-2 c = sym (length-take-le _ _ (search rules))
+
+pub slice_bounds-place_all-end-2 : goal.slice_bounds-place_all-end-2
+slice_bounds-place_all-end-2 c =
+    spare-there c.args.base c.args.heap.now _ _ _ _ c.requires.0 c.requires.1 c.requires.2 _ _
+    c.copy_words.ensures c.clear_words.ensures
+
+pub slice_bounds-place_all-end-4 : goal.slice_bounds-place_all-end-4
+slice_bounds-place_all-end-4 c =
+    front_there c.args.base c.args.heap.now _ _ _ _ c.requires.0 c.requires.1 c.requires.2 _ _
+    c.copy_words.ensures c.clear_words.ensures
+
+pub returns : goal.returns
+returns c =
+    record {
+      slots_after = rehashed _ _ _ _ _ _ c.requires.0 c.requires.1 c.requires.2 _ _ c.copy_words.ensures
+          c.clear_words.ensures _ c.place_all.ensures;
+      spare_after = c.copy_words.ensures;
+    }

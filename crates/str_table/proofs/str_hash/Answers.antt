@@ -1,0 +1,31 @@
+-- `str_table::str_hash` meets its contract. Assumes nothing.
+use Rattle.std.proofs.Common.{ap, not}
+use mathlib.Core.Path.{◌∙◌}
+use native.Mathlib.Omega.{arith}
+use lib.ListN.{length}
+use Rattle.string.proofs.Strings.{Within, header_found}
+use Rattle.str_table.proofs.Moves.{hash_read, hash_absent}
+use Rattle.str_table.proofs.str_hash.Goals as goal
+use Rattle.str_table.proofs.str_hash.Goals.{Else-not-header_in}
+
+-- what the test of the header says of all that comes after it
+abbrev Header : Else-not-header_in → Type 0
+Header c = let a = c.args in Within a.base (length a.heap.now) a.v 8
+
+header : (c : Else-not-header_in) → Header c
+header c = header_found _ _ _ _ c.header_in.ensures (ap not c.if-not-header_in.false)
+
+pub returns-then-not-header_in : goal.returns-then-not-header_in
+returns-then-not-header_in c = hash_absent _ _ _ _ c.header_in.ensures (ap not c.if-not-header_in.true)
+
+pub overflow_sub-at : goal.overflow_sub-at
+overflow_sub-at c = omega (arith, header c)
+
+pub overflow_add-at : goal.overflow_add-at
+overflow_add-at c = omega (arith, header c)
+
+pub load4-requires : goal.load4-requires
+load4-requires c = omega (arith, header c)
+
+pub returns : goal.returns
+returns c = c.load4.ensures.0 ∙ hash_read _ _ _ _ c.header_in.ensures (ap not c.if-not-header_in.false)
