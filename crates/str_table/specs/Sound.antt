@@ -1,5 +1,5 @@
 -- What a sound table is: the clauses of 9 that speak of it. Definitions only.
-use Rattle.std.specs.Prelude.{ℕ, ◌+◌, ◌*◌, Bool, true, false, cond, ◌&&◌, ◌||◌, List, [], ◌∷◌, length, take, leb, eqb}
+use Rattle.std.specs.Prelude.{ℕ, ◌+◌, ◌*◌, Bool, true, cond, ◌&&◌, ◌||◌, List, [], ◌∷◌, length, take, leb, eqb}
 use Rattle.str_table.specs.declared.StrTable.{StrTable}
 use Rattle.string.specs.Payload.{reaches}
 

@@ -1,10 +1,7 @@
 -- `str_table::place_all` its loops. Assumes nothing.
-use mathlib.Core.Path.{◌∙◌}
-use mathlib.Core.Logic.{⊎_elim}
 use Prim.Native.Nat.{◌-◌}
 use lib.ListN.{length}
-use Rattle.str_table.proofs.Moves.{Moving, moving_start, moving_skip, moving_place, moving_end}
-use borrow.Author.Rules.{rules}
+use Rattle.str_table.proofs.Moves.{Moving}
 use Rattle.str_table.proofs.place_all.Given as goal
 
 abbrev pub invariant-loop-i : goal.invariant-loop-i

@@ -1,7 +1,6 @@
 -- `str_table::StrTable::insert` meets its contract. Assumes nothing.
 use native.Mathlib.Omega.{arith}
 use Rattle.str_table.proofs.Moves.{room_holds, active-there, insert_is}
-use borrow.Author.Rules.{rules}
 use Rattle.str_table.proofs.StrTable.insert.Goals as goal
 
 pub room-room-requires : goal.room-room-requires

@@ -5,7 +5,6 @@ use borrow.Author.Tests.{not-true, not-false}
 use lib.Seq.{length-take-le}
 use Rattle.str_table.specs.Sound.{sound_of}
 use Rattle.str_table.proofs.Counting.{active-within}
-use borrow.Author.Rules.{rules}
 use Rattle.str_table.proofs.StrTable.sound.Goals as goal
 
 pub returns-then-not-active_ok : goal.returns-then-not-active_ok
