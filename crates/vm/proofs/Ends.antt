@@ -8,7 +8,7 @@ use mathlib.Core.Option.{Option, none, some}
 use mathlib.Core.List.{List, [], ◌∷◌, ◌++◌}
 use native.Mathlib.Omega.{arith}
 use native.Mathlib.Nat.{not-suc-le-zero, le_of_suc-le-suc, mod-le}
-use lib.ListN.{length, get_or, take, drop, set, length-set}
+use lib.ListN.{length, get_or, take, drop, set}
 use lib.Dec.{leb, ltb, eqb, lit<}
 use borrow.Author.Tests.{leb-true, le-leb, ltb-true, eqb-true, ne_eqb}
 use Rattle.memory.proofs.Tests.{both}

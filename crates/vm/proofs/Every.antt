@@ -4,7 +4,7 @@ use Prim.Native.Nat.{ℕ, zero, suc}
 use mathlib.Core.Bool.{Bool, true, false}
 use mathlib.Core.Option.{Option, none, some}
 use mathlib.Core.List.{List}
-use lib.ListN.{length, set}
+use lib.ListN.{set}
 use Rattle.gc.specs.Pages.{allocated}
 use Rattle.gc.specs.Lent.{page_size}
 use Rattle.effects.specs.declared.Effect.{Effect}

@@ -1,12 +1,12 @@
 -- The tests of a call on a machine that holds a core are tests of the core alone. Assumes nothing.
 use mathlib.Core.Path.{◌≡◌, refl, ap, ap₂, subst}
-use Prim.Native.Nat.{ℕ, ◌-◌, ◌≤◌}
+use Prim.Native.Nat.{ℕ, ◌≤◌}
 use mathlib.Core.Bool.{Bool, true, false, ◌&&◌, ◌||◌, true≢false}
 use mathlib.Core.Option.{some}
 use mathlib.Core.List.{List, [], ◌∷◌, ◌++◌, append-nil}
 use native.Mathlib.Omega.{arith}
 use lib.ListN.{length, take}
-use lib.Dec.{leb, ltb, eqb, lit≤}
+use lib.Dec.{leb, eqb, lit≤}
 use borrow.Author.Tests.{le-leb, ne_eqb}
 use Rattle.str_table.specs.Sound as Table
 use Rattle.gc.specs.declared.Gc.{Gc}
@@ -14,14 +14,13 @@ use Rattle.gc.specs.Lent.{numbers_of}
 use Rattle.gc.specs.Lent as Heap
 use Rattle.op.specs.declared.Checked.{Checked}
 use Rattle.op.specs.declared.Counts.{Counts}
-use Rattle.op.specs.Layout.{is_alignment}
 use Rattle.op.specs.Reach.{check_of}
 use Rattle.op.proofs.Sound.{check_refuses}
 use Rattle.vm.specs.declared.State.{State}
 use Rattle.vm.specs.Core.{Core, Memory, Sizes, used}
-use Rattle.program.specs.Image.{Image, Test, test, image_ok, word_test, word_tests, counts, image_tests, failing}
-use Rattle.vm.specs.Machine.{Lent, Machine, sizes, memory_of, view, reset, put_pc, put_reg, allocate, option, intern, intern_small, Call}
-use Rattle.vm.specs.Machine.{state_of, run, setting, host, frames_ok, heap_ok, slots_ok, returns_ok, frames_belong, pages_belong, names_belong, small_ok, Found, found, tests_by, tests}
+use Rattle.program.specs.Image.{Image, Test, image_ok, word_test, word_tests, counts, image_tests, failing}
+use Rattle.vm.specs.Machine.{Machine, sizes, memory_of, view, reset, put_pc, put_reg, allocate, option, intern, intern_small, Call}
+use Rattle.vm.specs.Machine.{state_of, run, setting, host, frames_ok, heap_ok, slots_ok, returns_ok, frames_belong, pages_belong, names_belong, Found, tests_by, tests}
 use Rattle.vm.specs.Core.{◌⊑◌, spent}
 use Rattle.memory.proofs.Tests.{both}
 use Rattle.vm.proofs.Fits.{fits_of, Each, each_append, failing_each}
