@@ -1,2 +1,0 @@
--- Names for what an arm calls.
-pub mod Calls
