@@ -8,8 +8,7 @@ use native.Mathlib.Omega.{arith}
 use lib.ListN.{length, take, drop_of_length-le}
 use lib.Seq.{length-take-le}
 use lib.Dec.{leb}
-use types.Run.{OneOf, miss}
-use denote.Enum.Declared.{tag_of}
+use mathlib.Core.Logic.{◌⊎◌, inl, inr}
 use borrow.Author.Tests.{leb-true, le-leb, lt-leb, le-ltb}
 use Rattle.memory.specs.Bytes.{bytes_of}
 use Rattle.memory.specs.Lists.{write}
@@ -19,7 +18,6 @@ use Rattle.anomaly.specs.declared.Refusal.{Refusal}
 use Rattle.anomaly.specs.Table.{number_of_refusal}
 use Rattle.str_table.specs.declared.StrTable.{StrTable}
 use Rattle.str_table.specs.declared.Probe.{Probe}
-use Rattle.str_table.specs.contracts.Probe as probes
 use Rattle.string.specs.Hash.{hash_of, small_hash_of}
 use Rattle.string.specs.Payload.{holds, small_name}
 use Rattle.str_table.specs.Table.{lookup, placed}
@@ -71,12 +69,11 @@ module _ (g : Gc) (name : List ℕ) (hash : ℕ) (heap x : List ℕ) (r : Alloc)
   unfolding numbers_of
   name_bytes = rw (name_given.numbers, name_given.bytes) (take-over given.pages.bytes heap given_in)
 
--- probing ended at a vacant slot, 1, or at none, 2
-pub new_name : (name : List ℕ) (l : Memory) (p : Probe) → OneOf (1 ∷ 2 ∷ []) (tag_of probes.the_type p) → known name l p ≡ fresh name l
+-- probing ended at a vacant slot, or at none
+pub new_name : (name : List ℕ) (l : Memory) (p : Probe) → ((i : ℕ) × (p ≡ Probe.Vacant i)) ⊎ (p ≡ Probe.Full) → known name l p ≡ fresh name l
 unfolding known
-new_name name l (Probe.Found v) is = absurd (miss (1 ∷ 2 ∷ []) 0 tt is)
-new_name name l (Probe.Vacant i) is = refl
-new_name name l Probe.Full is = refl
+new_name name l p (inl e) = rw e.1 refl
+new_name name l p (inr e) = rw e refl
 
 module _ (s : State) (l : Lent) (name : List ℕ) where
   abbrev machine : Machine

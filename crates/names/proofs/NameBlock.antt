@@ -17,7 +17,6 @@ use Rattle.gc.specs.Pages.{Block, allocated}
 use Rattle.gc.specs.Lent.{page_size, pages_of, numbers_of, fits, outcome, granted_in, alloc_of}
 use Rattle.gc.specs.Lent as Heap
 use Rattle.vm.specs.Core.{set_bytes}
-use Rattle.vm.specs.Machine.{granted}
 use Rattle.names.specs.Interned.{written, name_block}
 use Rattle.vm.proofs.Blocks.{allocated-placed, GivenAt, at_said, refused-said}
 use Rattle.vm.proofs.Kept.{allocated-base}

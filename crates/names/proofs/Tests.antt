@@ -14,7 +14,6 @@ use Rattle.str_table.specs.declared.StrTable.{StrTable}
 use Rattle.str_table.specs.Sound as Table
 use Rattle.str_table.proofs.Counting.{active-within}
 use Rattle.gc.specs.declared.Gc.{Gc}
-use Rattle.gc.specs.Pages.{pushed}
 use Rattle.gc.specs.Lent as Heap
 use Rattle.gc.proofs.Soundness.{sound}
 use Rattle.vm.specs.declared.State.{State}
