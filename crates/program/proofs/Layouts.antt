@@ -1,7 +1,7 @@
 -- Words cut into sections: what ends that go up say, and how long the sections are. Assumes nothing.
 use mathlib.Core.Path.{◌≡◌, refl, sym, ap, ◌∙◌}
 use Prim.Native.Nat.{ℕ, zero, suc, ◌+◌, ◌-◌, ◌≤◌, ◌<◌}
-use mathlib.Core.Bool.{Bool, true, false, cond, ◌&&◌, and-false, and_comm}
+use mathlib.Core.Bool.{Bool, true, false, ◌&&◌, and-false, and_comm}
 use mathlib.Core.Option.{none, some}
 use mathlib.Core.List.{List, [], ◌∷◌}
 use native.Mathlib.Omega.{arith}

@@ -1,6 +1,6 @@
 -- An image as it is lent, in words: the ends of nine sections, then the sections in a row. Definitions only.
 use Rattle.std.specs.Prelude.{ℕ, ◌+◌, ◌-◌, ◌≤◌, ◌≡◌, Bool, true, cond, List, [], ◌∷◌, length, get_or, take, drop}
-use Rattle.program.specs.Image.{Tables, Image, tables_of, image_of, rising, tables_ok}
+use Rattle.program.specs.Image.{Image, tables_of, image_of, rising, tables_ok}
 
 -- the words from a up to e
 abbrev pub between : ℕ → ℕ → List ℕ → List ℕ

@@ -1,0 +1,41 @@
+-- `rest` meets its contract: by the opcode, or by a run of opcodes that are answered alike. Assumes nothing.
+use mathlib.Core.Bool.{and-true}
+use Rattle.std.proofs.Common.{◌%◌, arith}
+use Rattle.op.specs.Layout.{parts_of}
+use Rattle.op.specs.Decode.{rows}
+use Rattle.op.specs.Masks.{rest_of}
+use Rattle.op.proofs.Checks.{jump_rest, function_rest, no_rest_below, no_rest_above}
+use Rattle.op.proofs.checker.rest.Goals as goal
+
+pub returns-in-28 : goal.returns-in-28
+unfolding rows rest_of
+returns-in-28 c = rw (c.in-28.is, c.inside.ensures, c.upper.ensures)
+
+pub returns-in-36 : goal.returns-in-36
+unfolding rows rest_of
+returns-in-36 c = rw (c.in-36.is, c.inside-in-36.ensures, c.upper-in-36.ensures)
+
+pub returns-in-37 : goal.returns-in-37
+unfolding rows rest_of
+returns-in-37 c = rw (c.in-37.is, c.inside-in-37.ensures, c.upper-in-37.ensures)
+
+pub returns-in-53 : goal.returns-in-53
+unfolding rows rest_of
+returns-in-53 c = rw (c.in-53.is, c.aligned.ensures, c.byte_three.ensures, and-true)
+
+pub returns-in-29-to-35 : goal.returns-in-29-to-35
+unfolding rows rest_of
+returns-in-29-to-35 c = rw (c.inside-in-29-to-35.ensures, c.target.ensures) (jump_rest (c.args.w % 256) c.args.n (parts_of c.args.w) (omega arith) (omega arith))
+
+pub returns-in-38-to-39 : goal.returns-in-38-to-39
+unfolding rows rest_of
+returns-in-38-to-39 c =
+    rw (c.inside-in-38-to-39.ensures, c.upper-in-38-to-39.ensures) (function_rest (c.args.w % 256) c.args.n (parts_of c.args.w) (omega arith) (omega arith))
+
+pub returns-in_default : goal.returns-in_default
+unfolding rows rest_of
+returns-in_default c = no_rest_below (c.args.w % 256) c.args.n (parts_of c.args.w) (omega arith)
+
+pub returns-in_default-2 : goal.returns-in_default-2
+unfolding rows rest_of
+returns-in_default-2 c = no_rest_above (c.args.w % 256) c.args.n (parts_of c.args.w) (omega arith) (λ e. omega arith)

@@ -1,0 +1,17 @@
+-- `program::loader::fits` meets its contract. Assumes nothing.
+use mathlib.Core.Path.{sym}
+use lib.Seq.{length-take-le}
+use Rattle.program.specs.Words.{fits}
+use Rattle.program.proofs.Layouts.{short}
+use Rattle.program.proofs.loader.fits.Goals as goal
+
+pub returns-then-image-lt-HEADER : goal.returns-then-image-lt-HEADER
+returns-then-image-lt-HEADER c = short _ c.if-image-lt-HEADER.true
+
+pub slice_bounds-rising-end : goal.slice_bounds-rising-end
+slice_bounds-rising-end c =
+    sym (length-take-le 9 c.args.image.now c.if-image-lt-HEADER.false)
+
+pub returns : goal.returns
+unfolding fits
+returns c = c.rising.ensures
