@@ -7,7 +7,6 @@ use mathlib.Core.List.{List, [], ◌∷◌, ◌++◌}
 use lib.ListN.{length, drop, length-append, length-drop}
 use lib.Dec.{eqb}
 use native.Mathlib.Omega.{arith}
-use Rattle.text.specs.Lines as Lines
 use Rattle.text.specs.Lines.{Lines, cut, line, before, lines_of, kind_of, payload_of}
 use Rattle.text.specs.Sections.{adds, section_of, targets_with, values_with}
 use Rattle.text.specs.Names.{bytes_in, Name, named, names_of, nth, name_of, bytes_of}

@@ -14,9 +14,7 @@ use Rattle.memory.proofs.Tests.{both}
 use Rattle.text.specs.Digits.{field}
 use Rattle.text.specs.Lines.{lines_of, kind_of, payload_of}
 use Rattle.text.specs.Sections.{adds}
-use Rattle.text.specs.Names.{bytes_in, Name, named, names_of, nth, name_of, Found}
-use Rattle.text.specs.declared.names.Spot.{Spot}
-use Rattle.text.specs.declared.names.Spot.TheVariants as Spot
+use Rattle.text.specs.Names.{bytes_in, Name, named, names_of, nth, name_of}
 use Rattle.text.specs.declared.sections.Section.TheVariants.{Globals}
 use Rattle.text.proofs.Splitting.{Ends, line_at, to_line, to_cut, to_none, payload_at}
 use Rattle.text.proofs.Gathering.{entries, entries-few, Putting, putting_start, putting_end}
@@ -39,12 +37,6 @@ module _ (p out₀ : List ℕ) where
   bytes-end out left at n g h =
       let a : Written out₀ 0 (bytes_in p) out n = putting_end p 2 out₀ 0 (bytes_in p) out left at n g h in
       (omega (arith, a.ends), a.is)
-
--- ---- a name that was found
-
-pub found_at : (s : List ℕ) (i : ℕ) (spot : Spot) (global start end : ℕ) → Found s i spot → spot ≡ Spot.At global start end
-    → Found s i (Spot.At global start end)
-found_at s i spot global start end found is = rw is at found
 
 -- ---- names, line by line
 

@@ -3,14 +3,12 @@ use Rattle.std.specs.Prelude.{ℕ, zero, suc, ◌+◌, ◌-◌, ◌/◌, ◌≤�
 use Rattle.std.proofs.Math.Option.{Option, none, some}
 use Rattle.memory.specs.Lists.{part}
 use Rattle.text.specs.Digits.{numbers}
-use Rattle.text.specs.Lines as Lines
 use Rattle.text.specs.Lines.{Lines, cut, line, lines_of, kind_of, payload_of}
 use Rattle.text.specs.Sections.{adds}
 use Rattle.text.specs.declared.sections.Section.TheVariants.{Globals}
 use Rattle.text.specs.declared.names.Named.{Named}
 use Rattle.text.specs.declared.names.Named.TheVariants.{At, Missing}
 use Rattle.text.specs.declared.names.Spot.{Spot}
-use Rattle.text.specs.declared.names.Spot.TheVariants as Spot
 
 -- two digits a byte
 abbrev pub bytes_in : List ℕ → List ℕ
