@@ -1,5 +1,5 @@
 -- One instruction over state and buffers, by what it asks for: the machine that its code leaves. Assumes nothing.
-use Rattle.std.proofs.Common.{◌≡◌, ℕ, zero, suc, ◌+◌, ◌-◌, ◌%◌, ◌^◌, ◌<◌, ◌≤◌, Bool, true, false, cond, not, ◌&&◌, ◌||◌, eqb, ltb, leb, ◌⊎◌, List, [], ◌∷◌, ◌++◌, length, get_or, take, set, sym, refl, ap, ◌∙◌, ⊎_elim, true≢false, arith, length-append, length-take-le, get_or-take, take-take, ltb-false, ltb-true, le-leb, leb-false, leb-true}
+use Rattle.std.proofs.Common.{◌≡◌, ℕ, zero, suc, ◌+◌, ◌-◌, ◌%◌, ◌^◌, ◌<◌, ◌≤◌, Bool, true, false, cond, not, ◌&&◌, ◌||◌, eqb, ltb, leb, List, [], ◌∷◌, ◌++◌, length, get_or, take, set, sym, refl, ap, ◌∙◌, ⊎_elim, true≢false, arith, length-append, length-take-le, get_or-take, take-take, ltb-false, ltb-true, le-leb, leb-false, leb-true}
 use mathlib.Core.Option.{none}
 use borrow.Author.Tests.{lt-leb}
 use Rattle.memory.specs.Bytes.{bytes_of, number, value_of}
@@ -13,7 +13,7 @@ use Rattle.gc.specs.declared.Gc.{Gc}
 use Rattle.gc.specs.declared.Alloc.{Alloc}
 use Rattle.gc.specs.declared.Alloc.TheVariants as alloc
 use Rattle.gc.specs.Pages.{Pages, Block, allocated}
-use Rattle.gc.specs.Lent.{page_size, pages_of, numbers_of, fits, outcome, alloc_of, InHeap}
+use Rattle.gc.specs.Lent.{page_size, pages_of, numbers_of, fits, outcome, alloc_of}
 use Rattle.gc.proofs.Blocks.{pushed-is}
 use Rattle.effects.specs.declared.Effect.TheVariants as effect
 use Rattle.program.specs.Image.{test, failing}

@@ -1,0 +1,21 @@
+-- `instruction::load` meets its contract. Assumes nothing.
+use Rattle.std.proofs.Common.{sym, ◌∙◌, arith}
+use Rattle.vm.specs.Machine.{lend_heap}
+use Rattle.instruction.proofs.Turns.{place_room, turn_load_outside, turn_load}
+use Rattle.instruction.proofs.load.Goals as goal
+
+pub reach-requires : goal.reach-requires
+reach-requires c = omega (arith, c.requires.2.low, c.requires.2.in_heap)
+
+pub returns-in_default : goal.returns-in_default
+returns-in_default c =
+    λ s l fit. sym
+    (turn_load_outside s _ _ (lend_heap _ l) fit _ _ (sym c.reach.ensures ∙ c.in_default.is) _)
+
+pub load8-requires : goal.load8-requires
+load8-requires c = omega (arith, c.requires.2.in_heap, place_room _ _ _ (sym c.reach.ensures ∙ c.in-At.is))
+
+pub returns : goal.returns
+returns c =
+    λ s l fit. rw (c.to.ensures, c.load8.ensures)
+    (sym (turn_load s _ _ (lend_heap _ l) fit _ _ _ (sym c.reach.ensures ∙ c.in-At.is) _))

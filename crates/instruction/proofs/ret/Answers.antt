@@ -1,0 +1,13 @@
+-- `instruction::ret` meets its contract. Assumes nothing.
+use Rattle.std.proofs.Common.{◌≡◌, suc, ◌-◌, sym, arith}
+use Rattle.vm.specs.Machine.{lend_frames}
+use Rattle.instruction.proofs.Turns.{turn_underflow, turn_ret}
+use Rattle.instruction.proofs.ret.Goals as goal
+
+pub returns-then-at-eq0 : goal.returns-then-at-eq0
+returns-then-at-eq0 c = λ s regs l fit. sym (turn_underflow s _ regs (lend_frames _ l) fit c.if-at-eq0.true)
+
+pub returns : goal.returns
+returns c =
+    let deeper : c.args.at.depth ≡ suc (c.args.at.depth - 1) = omega (arith, c.if-at-eq0.false) in
+    λ s regs l fit. rw c.wrapping_add_u64.ensures.value (sym (turn_ret s _ regs (lend_frames _ l) fit _ deeper))

@@ -1,0 +1,7 @@
+-- `instruction::set` meets its contract. Assumes nothing.
+use Rattle.std.proofs.Common.{sym}
+use Rattle.instruction.proofs.Turns.{turn-set}
+use Rattle.instruction.proofs.set.Goals as goal
+
+pub returns : goal.returns
+returns c = λ s l fit. rw c.to.ensures (sym (turn-set s _ _ l fit _ _))

@@ -1,0 +1,21 @@
+-- `instruction::store` meets its contract. Assumes nothing.
+use Rattle.std.proofs.Common.{sym, ◌∙◌, arith}
+use Rattle.vm.specs.Machine.{lend_heap}
+use Rattle.instruction.proofs.Turns.{place_room, turn_store_outside, turn_store}
+use Rattle.instruction.proofs.store.Goals as goal
+
+pub reach-requires : goal.reach-requires
+reach-requires c = omega (arith, c.requires.1.low, c.requires.1.in_heap)
+
+pub returns-in_default : goal.returns-in_default
+returns-in_default c =
+    λ s regs l fit. sym
+    (turn_store_outside s _ regs (lend_heap _ l) fit _ _ (sym c.reach.ensures ∙ c.in_default.is) _)
+
+pub store8-requires : goal.store8-requires
+store8-requires c = omega (arith, c.requires.1.in_heap, place_room _ _ _ (sym c.reach.ensures ∙ c.in-At.is))
+
+pub returns : goal.returns
+returns c =
+    λ s regs l fit. rw (c.to.ensures, c.store8.ensures)
+    (sym (turn_store s _ regs (lend_heap _ l) fit _ _ _ (sym c.reach.ensures ∙ c.in-At.is) _))
