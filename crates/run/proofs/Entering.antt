@@ -1,8 +1,7 @@
 -- A run from its call on: what its tests leave, frame 0, and how the call's answer comes from the loop's. Assumes nothing.
-use Rattle.std.proofs.Common.{◌≡◌, ℕ, zero, suc, ◌+◌, ◌-◌, ◌%◌, ◌^◌, ◌<◌, ◌≤◌, Bool, true, false, cond, ◌&&◌, ◌||◌, eqb, ltb, leb, List, [], ◌∷◌, length, take, set, sym, refl, ap, ◌∙◌, zero-add, arith, length-set, le-ltb, lt-ltb, eqb-true, le-leb, leb-false, leb-true}
+use Rattle.std.proofs.Common.{◌≡◌, ℕ, zero, suc, ◌+◌, ◌%◌, ◌^◌, ◌<◌, ◌≤◌, Bool, true, false, cond, ◌&&◌, ◌||◌, eqb, ltb, leb, List, [], ◌∷◌, length, take, set, sym, refl, ap, ◌∙◌, zero-add, arith, length-set, le-ltb, lt-ltb, eqb-true, leb-true}
 use mathlib.Core.Option.{none, some}
 use lib.Seq.{take-set-lt}
-use borrow.Author.Tests.{eqb-false}
 use Rattle.anomaly.specs.Table.{is_anomaly}
 use Rattle.memory.proofs.Tests.{both}
 use Rattle.gc.specs.Lent.{InHeap}
