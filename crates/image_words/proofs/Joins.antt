@@ -1,16 +1,16 @@
 -- Sections joined and cut again: each comes back, and one may be replaced by another as long. Assumes nothing.
 use mathlib.Core.Path.{◌≡◌, refl, sym, ap, ◌∙◌}
 use Prim.Native.Nat.{ℕ, zero, suc, ◌+◌, ◌-◌, ◌≤◌, ◌<◌}
-use mathlib.Core.Bool.{true, ◌&&◌}
+use mathlib.Core.Bool.{true}
 use mathlib.Core.List.{List, [], ◌∷◌, ◌++◌, append_assoc, append-nil}
 use native.Mathlib.Omega.{arith}
 use native.Mathlib.Nat.{add-zero, add_assoc}
-use lib.ListN.{length, get_or, take, drop, set, length-append, length-drop}
+use lib.ListN.{length, get_or, take, drop, length-append, length-drop}
 use lib.Seq.{take-append_seam, take-append-add, take_at, drop_at, length-take-le}
 use borrow.Author.Tests.{le-leb, eq-eqb}
 use Rattle.memory.specs.Lists.{over, write, Written}
-use Rattle.memory.proofs.Over.{tail_returned, length_over, length-write, take-over, over-is, write-is, write-append, sets_write}
-use Rattle.program.specs.Image.{Image, Tables, tables_of, image_of, rising}
+use Rattle.memory.proofs.Over.{tail_returned, length-write, take-over, over-is, write-is, write-append, sets_write}
+use Rattle.program.specs.Image.{Image, tables_of, image_of, rising}
 use Rattle.program.specs.Words.{between, fits, cut, image_in, Ordered}
 use Rattle.program.proofs.Layouts.{image-is, ordered}
 use Rattle.image_words.specs.Joined.{ends, flat, sections_of, joined}
