@@ -17,19 +17,26 @@ fn line(rt: &impl Print, label: &[u8], n: u64) -> io::Result<()> {
 fn hashes(rt: &impl Print) -> io::Result<()> {
     line(rt, b"hash of nothing", string::fxhash::hash(b"") as u64)?;
     line(rt, b"hash of a", string::fxhash::hash(b"a") as u64)?;
-    line(rt, 
+    line(
+        rt,
         b"hash of abcdefgh",
         string::fxhash::hash(b"abcdefgh") as u64,
     )?;
-    line(rt, 
+    line(
+        rt,
         b"hash of 0123456789",
         string::fxhash::hash(b"0123456789") as u64,
     )?;
-    line(rt, 
+    line(
+        rt,
         b"small hash of nothing",
         string::fxhash::small_hash(0, 0) as u64,
     )?;
-    line(rt, b"small hash of a", string::fxhash::small_hash(1, 97) as u64)
+    line(
+        rt,
+        b"small hash of a",
+        string::fxhash::small_hash(1, 97) as u64,
+    )
 }
 
 // The pattern of a result; 1 and 7 are the ends of a division that has none.
@@ -48,30 +55,47 @@ fn divisions(rt: &impl Print) -> io::Result<()> {
     line(rt, b"-7 by 2, rest", shown(value::int::rem(minus_seven, 2)))?;
     line(rt, b"7 by 0", shown(value::int::div(7, 0)))?;
     line(rt, b"-2^63 by -1", shown(value::int::div(least, u64::MAX)))?;
-    line(rt, 
+    line(
+        rt,
         b"(2^63 + 1) squared",
         value::int::wrapping_mul(least + 1, least + 1),
     )
 }
 
 fn casts(rt: &impl Print) -> io::Result<()> {
-    line(rt, 
+    line(
+        rt,
         b"2^53 + 1 to double",
         Value(0x20_0000_0000_0001).int_to_f64().0,
     )?;
-    line(rt, 
+    line(
+        rt,
         b"2^53 + 3 to double",
         Value(0x20_0000_0000_0003).int_to_f64().0,
     )?;
     line(rt, b"NaN to int", Value::NAN.f64_to_int().0)?;
-    line(rt, b"-0.5 to int", Value(0xbfe0_0000_0000_0000).f64_to_int().0)?;
-    line(rt, b"2^63 to int", Value(0x43e0_0000_0000_0000).f64_to_int().0)?;
-    line(rt, b"-2^63 to int", Value(0xc3e0_0000_0000_0000).f64_to_int().0)?;
-    line(rt, 
+    line(
+        rt,
+        b"-0.5 to int",
+        Value(0xbfe0_0000_0000_0000).f64_to_int().0,
+    )?;
+    line(
+        rt,
+        b"2^63 to int",
+        Value(0x43e0_0000_0000_0000).f64_to_int().0,
+    )?;
+    line(
+        rt,
+        b"-2^63 to int",
+        Value(0xc3e0_0000_0000_0000).f64_to_int().0,
+    )?;
+    line(
+        rt,
         b"-0.0 to bool",
         Value(0x8000_0000_0000_0000).int_to_bool().0,
     )?;
-    line(rt, 
+    line(
+        rt,
         b"0.1 + 0.2",
         value::double::add(0x3fb9_9999_9999_999a, 0x3fc9_9999_9999_999a),
     )?;

@@ -160,13 +160,7 @@ fn malformed(counts: Counts) -> Next {
 }
 
 // A case whose image begins at `at`.
-fn case(
-    rt: &impl Print,
-    all: &[u8],
-    line: &[u8],
-    at: usize,
-    counts: Counts,
-) -> io::Result<Next> {
+fn case(rt: &impl Print, all: &[u8], line: &[u8], at: usize, counts: Counts) -> io::Result<Next> {
     if line.len() < NAME_AT {
         return Ok(malformed(counts));
     }
