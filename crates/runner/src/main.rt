@@ -3,17 +3,17 @@
 
 mod stdin;
 
-use libc::STDOUT_FILENO;
+use std::io;
 use stdin::Input;
 
-fn main() {
+fn main(rt: HostRuntime) -> io::Result<()> {
     // one byte more than the longest image: nothing behind it changes the answer
     let mut input = [0u8; text::MAX_LEN + 1];
     // half an image is no image: a read that fails leaves nothing to answer
-    let Input::Read(n) = stdin::read(&mut input) else {
-        return;
+    let Input::Read(n) = stdin::read(&mut rt.reader(), &mut input) else {
+        return Ok(());
     };
     let mut out = [0u8; report::LONGEST];
     let len = image_runner::answer(&input[..n], &mut out);
-    io::write_all(STDOUT_FILENO, &out[..len]);
+    rt.write_all(&out[..len])
 }

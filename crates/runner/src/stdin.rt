@@ -1,7 +1,7 @@
 // Standard input, read to its end.
 ghost use Rattle.runner.specs.Input.{Within};
 
-use libc::STDIN_FILENO;
+use std::io::Read;
 
 // How many bytes were read, or that a read failed.
 #[derive(Clone, Copy)]
@@ -11,18 +11,16 @@ pub enum Input {
 }
 
 // Reads until `buf` is full or the input ends.
-pub fn read(buf: &mut [u8]) -> Input
+pub fn read<R: Read>(reader: &mut R, buf: &mut [u8]) -> Input
     ensures { Within result buf.new }
 {
     let mut n: usize = 0;
     while n < buf.len() {
-        let got = libc::read(STDIN_FILENO, &mut buf[n..]);
-        let more = io::count(got, &buf[n..]);
-        // nothing came: the input has ended, or the read failed
+        let Ok(more) = reader.read(&mut buf[n..]) else {
+            return Input::Failed;
+        };
+        // nothing came: the input has ended
         if more == 0 {
-            if got < 0 {
-                return Input::Failed;
-            }
             return Input::Read(n);
         }
         n += more;

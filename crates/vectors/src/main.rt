@@ -9,9 +9,11 @@
 #![tactic(auto)]
 
 ghost use Rattle.std.specs.Prelude.{◌≡◌, length};
+ghost use Rattle.std.specs.Io.{ReadsAtMost};
 
 use comparison::agrees;
-use libc::{STDIN_FILENO, STDOUT_FILENO};
+use std::io;
+use std::io::Read;
 use text::{all_digits, line_end, number};
 
 // Where a case's line has the two lengths and the name, and how many digits the lengths have.
@@ -75,15 +77,14 @@ impl Tally {
         }
     }
 
-    fn print(self) {
-        io::print_decimal(STDOUT_FILENO, self.agree);
-        io::write_all(STDOUT_FILENO, b" agree");
-        if self.differ > 0 {
-            io::write_all(STDOUT_FILENO, b", ");
-            io::print_decimal(STDOUT_FILENO, self.differ);
-            io::write_all(STDOUT_FILENO, b" DIFFER");
+    fn print(self, rt: &impl Print) -> io::Result<()> {
+        let agree = self.agree;
+        let differ = self.differ;
+        print!(rt; "{agree} agree")?;
+        if differ > 0 {
+            print!(rt; ", {differ} DIFFER")?;
         }
-        io::write_all(STDOUT_FILENO, b"\n");
+        println!(rt)
     }
 
     fn is_none(self) -> bool {
@@ -100,34 +101,35 @@ fn is_headed(line: &[u8], byte: u8) -> bool {
 }
 
 // A new subject: the count of the one before, and its name.
-fn subject(line: &[u8], at: usize, counts: Counts) -> Next {
+fn subject(rt: &impl Print, line: &[u8], at: usize, counts: Counts) -> io::Result<Next> {
     let done = counts.subject;
     if !done.is_none() {
-        done.print();
+        done.print(rt)?;
     }
     if line.len() > 3 {
-        io::write_all(STDOUT_FILENO, &line[3..]);
-        io::write_all(STDOUT_FILENO, b": ");
+        rt.write_all(&line[3..])?;
+        rt.write_all(b": ")?;
     }
     let rust = counts.rust;
     let paper = counts.paper;
-    Next {
+    Ok(Next {
         at,
         counts: Counts {
             subject: Tally::none(),
             rust,
             paper,
         },
-    }
+    })
 }
 
 // The name of a case whose answer is not the stored one.
-fn print_name(line: &[u8]) {
+fn print_name(rt: &impl Print, line: &[u8]) -> io::Result<()> {
     if line.len() >= NAME_AT {
-        io::write_all(STDOUT_FILENO, b"[");
-        io::write_all(STDOUT_FILENO, &line[NAME_AT..]);
-        io::write_all(STDOUT_FILENO, b"] ");
+        rt.write_all(b"[")?;
+        rt.write_all(&line[NAME_AT..])?;
+        rt.write_all(b"] ")?;
     }
+    Ok(())
 }
 
 fn is_rust(line: &[u8]) -> bool {
@@ -158,68 +160,68 @@ fn malformed(counts: Counts) -> Next {
 }
 
 // A case whose image begins at `at`.
-fn case(all: &[u8], line: &[u8], at: usize, counts: Counts) -> Next {
+fn case(rt: &impl Print, all: &[u8], line: &[u8], at: usize, counts: Counts) -> io::Result<Next> {
     if line.len() < NAME_AT {
-        return malformed(counts);
+        return Ok(malformed(counts));
     }
     if !all_digits(&line[IMAGE_AT..IMAGE_AT + IMAGE_DIGITS]) {
-        return malformed(counts);
+        return Ok(malformed(counts));
     }
     if !all_digits(&line[ANSWER_AT..ANSWER_AT + ANSWER_DIGITS]) {
-        return malformed(counts);
+        return Ok(malformed(counts));
     }
     let n = number(line, IMAGE_AT, IMAGE_DIGITS) as usize;
     let m = number(line, ANSWER_AT, ANSWER_DIGITS) as usize;
     if at > all.len() {
-        return malformed(counts);
+        return Ok(malformed(counts));
     }
     if n > all.len() - at {
-        return malformed(counts);
+        return Ok(malformed(counts));
     }
     let middle = at + n;
     if m > all.len() - middle {
-        return malformed(counts);
+        return Ok(malformed(counts));
     }
     let end = middle + m;
     let agrees = agrees(&all[at..middle], &all[middle..end]);
     if !agrees {
-        print_name(line);
+        print_name(rt, line)?;
     }
-    Next {
+    Ok(Next {
         at: end,
         counts: counted(line, counts, agrees),
-    }
+    })
 }
 
-fn record(all: &[u8], at: usize, counts: Counts) -> Next {
+fn record(rt: &impl Print, all: &[u8], at: usize, counts: Counts) -> io::Result<Next> {
     if at > all.len() {
-        return malformed(counts);
+        return Ok(malformed(counts));
     }
     let end = line_end(all, at);
     if end >= all.len() {
-        return malformed(counts);
+        return Ok(malformed(counts));
     }
     let line = &all[at..end];
     if is_headed(line, b'=') {
-        subject(line, end + 1, counts)
+        subject(rt, line, end + 1, counts)
     } else if is_headed(line, b'-') {
-        case(all, line, end + 1, counts)
+        case(rt, all, line, end + 1, counts)
     } else {
-        malformed(counts)
+        Ok(malformed(counts))
     }
 }
 
-fn totals(counts: Counts) {
+fn totals(rt: &impl Print, counts: Counts) -> io::Result<()> {
     let subject = counts.subject;
     let rust = counts.rust;
     let paper = counts.paper;
-    subject.print();
-    io::write_all(STDOUT_FILENO, b"rust: ");
-    rust.print();
-    io::write_all(STDOUT_FILENO, b"paper: ");
-    paper.print();
-    io::write_all(STDOUT_FILENO, b"all: ");
-    rust.and(paper).print();
+    subject.print(rt)?;
+    rt.write_all(b"rust: ")?;
+    rust.print(rt)?;
+    rt.write_all(b"paper: ")?;
+    paper.print(rt)?;
+    rt.write_all(b"all: ")?;
+    rust.and(paper).print(rt)
 }
 
 fn none() -> Counts {
@@ -230,27 +232,24 @@ fn none() -> Counts {
     }
 }
 
-fn stop(at: usize) {
-    io::write_all(STDOUT_FILENO, b"\nmalformed: the record at byte ");
-    io::print_decimal(STDOUT_FILENO, at as u64);
-    io::write_all(STDOUT_FILENO, b"\n");
+fn stop(rt: &impl Print, at: usize) -> io::Result<()> {
+    println!(rt; "\nmalformed: the record at byte {at}")
 }
 
 // Every record up to the end; one that leads to no later place is malformed.
-fn replay(all: &[u8]) {
+fn replay(rt: &impl Print, all: &[u8]) -> io::Result<()> {
     let mut counts = none();
     let mut at = 0;
     while at < all.len() {
-        let next = record(all, at, counts);
+        let next = record(rt, all, at, counts)?;
         let to = next.at;
         if to <= at {
-            stop(at);
-            return;
+            return stop(rt, at);
         }
         at = to;
         counts = next.counts;
     }
-    totals(counts);
+    totals(rt, counts)
 }
 
 // The `ensures` gives only the length, which lending the array as a slice needs.
@@ -260,8 +259,23 @@ fn room() -> [u8; 1048576]
     [0; 1048576]
 }
 
-fn main() {
+// Reads until `buf` is full or the input ends, and returns how many bytes it put at the start of `buf`.
+fn read_full<R: Read>(reader: &mut R, buf: &mut [u8]) -> io::Result<usize>
+    ensures { ReadsAtMost result buf.new }
+{
+    let mut n: usize = 0;
+    while n < buf.len() {
+        let more = reader.read(&mut buf[n..])?;
+        if more == 0 {
+            break;
+        }
+        n += more;
+    }
+    Ok(n)
+}
+
+fn main(rt: HostRuntime) -> io::Result<()> {
     let mut all = room();
-    let n = io::read_full(STDIN_FILENO, &mut all);
-    replay(&all[..n]);
+    let n = read_full(&mut rt.reader(), &mut all)?;
+    replay(&rt, &all[..n])
 }
