@@ -1,12 +1,10 @@
 -- Names interned one after the other: what is left from here is what the whole list was. Assumes nothing.
 use mathlib.Core.Path.{◌≡◌, refl, sym, ap, ap₂, subst, ◌∙◌}
-use Prim.Native.Nat.{ℕ, ◌+◌, ◌-◌, ◌≤◌, ◌<◌}
+use Prim.Native.Nat.{ℕ, ◌+◌, ◌≤◌, ◌<◌}
 use mathlib.Core.Option.{Option, none, some}
-use mathlib.Core.List.{List, [], ◌∷◌}
+use mathlib.Core.List.{List}
 use native.Mathlib.Omega.{arith}
 use lib.ListN.{length, take, drop, set, length-set}
-use types.Run.{OneOf, miss}
-use denote.Enum.Declared.{tag_of}
 use Rattle.memory.specs.Lists.{over}
 use Rattle.memory.proofs.Over.{length_over, take-over}
 use Rattle.text.specs.declared.sections.Section.TheVariants.{Globals}
@@ -16,7 +14,6 @@ use Rattle.text.specs.Sections.{section_in}
 use Rattle.text.specs.Names.{Name, names_of, name_of, answer_of, bytes_of}
 use Rattle.text.proofs.Indices.{nth_some, nth-none, global-within, names_in, name_short}
 use Rattle.vm.specs.declared.Reply.{Reply}
-use Rattle.vm.specs.contracts.Reply as replies
 use Rattle.vm.specs.Told.{said_of}
 use Rattle.vm.specs.Machine.{Lent, Machine, Answer, ended, value, done, refused, Called, host, intern, perform}
 use Rattle.image_names.specs.Named.{intern_on, intern_all}
@@ -33,12 +30,12 @@ unfolding answer_of
 none_by none e = refl
 none_by (some name) e = let z : ◌≡◌ {A = ℕ} 0 1 = cc in absurd (omega arith)
 
--- the tags of a reply: a value 0, done 1, refused 2
-pub not_value : (r : Reply) → OneOf (1 ∷ 2 ∷ []) (tag_of replies.the_type r) → (v : ℕ) → said_of r ≡ value v → ⊥
+-- a reply that is no value says none
+pub not_value : (r : Reply) → ((w : ℕ) → r ≡ Reply.Value w → ⊥) → (v : ℕ) → said_of r ≡ value v → ⊥
 unfolding said_of
-not_value (Reply.Value w) is v e = absurd (miss (1 ∷ 2 ∷ []) 0 tt is)
-not_value Reply.Done is v e = let z : ◌≡◌ {A = ℕ} 0 1 = cc in absurd (omega arith)
-not_value (Reply.Refused why) is v e = let z : ◌≡◌ {A = ℕ} 0 1 = cc in absurd (omega arith)
+not_value (Reply.Value w) other v e = other w refl
+not_value Reply.Done other v e = let z : ◌≡◌ {A = ℕ} 0 1 = cc in absurd (omega arith)
+not_value (Reply.Refused why) other v e = let z : ◌≡◌ {A = ℕ} 0 1 = cc in absurd (omega arith)
 
 -- where the loop has come to
 pub record Interning (s : List ℕ) (m₀ : Lent → Machine) (g₀ : List ℕ) (m : Lent → Machine) (g : List ℕ) (i : ℕ) : Type 0 where
