@@ -1,4 +1,4 @@
-/* Girzhanok, the rating machine, as a library for C: libgirzhanok.a, which `rt staticlib girzhanok` writes for x86-64 Linux.
+/* Girzhanok, the rating machine, as a library for C: libgirzhanok.a, which `rt lib` in crates/girzhanok writes for x86-64 Linux.
  *
  * Each function is proved, with no condition on its arguments, to return and leave what the machine's definition says
  * (crates/girzhanok/src/lib.rt). What C has to keep is what a pointer is, here as everywhere:
