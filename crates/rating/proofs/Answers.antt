@@ -2,13 +2,11 @@
 use mathlib.Core.Path.{◌≡◌, refl, ap, ◌∙◌}
 use Prim.Native.Nat.{ℕ, ◌≤◌}
 use mathlib.Core.Bool.{true}
-use mathlib.Core.List.{List, [], ◌∷◌}
+use mathlib.Core.List.{List}
 use native.Mathlib.Omega.{arith}
 use lib.ListN.{length}
 use lib.Dec.{leb}
 use borrow.Author.Tests.{leb-true}
-use types.Run.{OneOf, miss}
-use denote.Enum.Declared.{tag_of}
 use Rattle.memory.proofs.Tests.{both}
 use Rattle.text.specs.declared.Head.{Head}
 use Rattle.text.specs.declared.sections.Section.TheVariants.{Globals}
@@ -18,9 +16,8 @@ use Rattle.text.specs.Sections.{section_in}
 use Rattle.text.specs.Names.{names_of}
 use Rattle.program.specs.Image.{Image}
 use Rattle.program.specs.Words.{image_in}
-use Rattle.vm.specs.Machine.{Lent, Machine, Answer, value, done, refused, Called, run, perform, Started, declined, begun, start}
+use Rattle.vm.specs.Machine.{Lent, Machine, Answer, done, Called, run, perform, Started, declined, begun, start}
 use Rattle.vm.specs.declared.Reply.{Reply}
-use Rattle.vm.specs.contracts.Reply as replies
 use Rattle.vm.specs.Told.{said_of, started_on}
 use Rattle.image_words.specs.Said.{image_with}
 use Rattle.image_words.specs.Joined.{joined}
@@ -52,12 +49,11 @@ module _ (s : List ℕ) (h : Head) (base : ℕ) (l : Lent) where
 
 -- ---- the names
 
--- the tags of a reply: a value 0, done 1, refused 2
-pub not_ready : (r : Reply) → OneOf (0 ∷ 2 ∷ []) (tag_of replies.the_type r) → (im : Image) (b : ℕ) (m : Machine)
+pub not_ready : (r : Reply) → (r ≡ Reply.Done → ⊥) → (im : Image) (b : ℕ) (m : Machine)
     → reply_text (said_of r) ≡ ready_text (said_of r) im b m
 unfolding said_of ready_text
 not_ready (Reply.Value v) is im b m = refl
-not_ready Reply.Done is im b m = absurd (miss (0 ∷ 2 ∷ []) 1 tt is)
+not_ready Reply.Done is im b m = absurd (is refl)
 not_ready (Reply.Refused why) is im b m = refl
 
 pub ready : (r : Reply) → r ≡ Reply.Done → (im : Image) (b : ℕ) (m : Machine) (c : Called) → c ≡ perform (run im b) m
@@ -67,10 +63,10 @@ ready r e im b m c is = rw (e, is) refl
 
 -- ---- a rating from its start on
 
-pub not_done : (r : Reply) → OneOf (0 ∷ 2 ∷ []) (tag_of replies.the_type r) → said_of r ≡ done → ⊥
+pub not_done : (r : Reply) → (r ≡ Reply.Done → ⊥) → said_of r ≡ done → ⊥
 unfolding said_of
 not_done (Reply.Value v) is e = let z : ◌≡◌ {A = ℕ} 0 1 = cc in absurd (omega arith)
-not_done Reply.Done is e = absurd (miss (0 ∷ 2 ∷ []) 1 tt is)
+not_done Reply.Done is e = absurd (is refl)
 not_done (Reply.Refused why) is e = let z : ◌≡◌ {A = ℕ} 0 1 = cc in absurd (omega arith)
 
 pub done-is : (r : Reply) → r ≡ Reply.Done → said_of r ≡ done
