@@ -23,7 +23,7 @@ use Rattle.image_names.specs.Named.{Interned, intern_on, intern_all}
 use Rattle.outcome.specs.Outcome.{reply_text, run_text}
 use Rattle.rating.specs.Rated.{lent_for, ready_text, started_text}
 use Rattle.image_runner.specs.Runner.{room_for, image_text, answer_of}
-use Rattle.image_runner.specs.Shown.{Refuses, Reports, Shown}
+use Rattle.image_runner.specs.Shown.{Refuses, Shown}
 
 refuses : (e : ℕ) → is_refusal e ≡ true → Refuses (refusal_of e)
 refuses e h = record { number = e; listed = h; says = refl }

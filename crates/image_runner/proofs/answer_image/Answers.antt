@@ -1,0 +1,78 @@
+-- `image_runner::answer_image` meets its contract. Assumes nothing.
+use Rattle.std.proofs.Common.{ap, not}
+use mathlib.Core.Path.{sym, ◌∙◌}
+use Prim.Native.Nat.{◌*◌}
+use native.Mathlib.Omega.{arith}
+use lib.ListN.{length-replicate}
+use borrow.Author.Tests.{not-false}
+use Rattle.text.proofs.Numbers.{budget_small}
+use Rattle.image_runner.specs.Runner.{image_text}
+use Rattle.outcome.proofs.Texts.{refusal_says}
+use Rattle.image_runner.proofs.Limits.{Fits, fitting, words_room}
+use Rattle.image_runner.proofs.Parts.{words-part, zeros-part, lent_of_parts}
+use borrow.Author.Rules.{rules}
+use Rattle.image_runner.proofs.answer_image.Goals as goal
+use Rattle.image_runner.proofs.answer_image.Goals.{Else-not-room_for}
+
+room : (c : Else-not-room_for) → Fits c.args.head c.args.input.now
+room c = fitting _ _ (sym c.room_for.ensures ∙ not-false _ (ap not c.if-not-room_for.false))
+
+pub returns-then-not-room_for : goal.returns-then-not-room_for
+unfolding image_text
+returns-then-not-room_for c =
+    rw (sym c.room_for.ensures ∙ c.if-not-room_for.true)
+    (refusal_says 10 _ _ _ c.put_refusal.ensures.0 c.put_refusal.ensures.1)
+
+pub overflow_mul-heap_size : goal.overflow_mul-heap_size
+overflow_mul-heap_size c = omega (arith, (room c).pages)
+
+pub join-total-requires : goal.join-total-requires
+join-total-requires c = rw length-replicate (words_room _ _ (room (goal.at.join-total-requires c).Else-not-room_for))
+
+pub slice_bounds-words-end : goal.slice_bounds-words-end
+slice_bounds-words-end c = (words-part c.join-total.ensures.0 c.join-total.ensures.1).inside
+
+pub slice_bounds-rate-end : goal.slice_bounds-rate-end
+slice_bounds-rate-end c = (words-part c.join-total.ensures.0 c.join-total.ensures.1).long
+
+pub slice_bounds-frames-end : goal.slice_bounds-frames-end
+slice_bounds-frames-end c = (zeros-part 4096 (room (goal.at.slice_bounds-frames-end c).Else-not-room_for).frames).inside
+
+pub slice_bounds-rate-end-2 : goal.slice_bounds-rate-end-2
+slice_bounds-rate-end-2 c = (zeros-part 4096 (room (goal.at.slice_bounds-rate-end-2 c).Else-not-room_for).frames).long
+
+pub slice_bounds-heap-end : goal.slice_bounds-heap-end
+slice_bounds-heap-end c =
+    (zeros-part {n = c.args.head.pages * 4096} 32768 (omega (arith, (room (goal.at.slice_bounds-heap-end c).Else-not-room_for).pages))).inside
+
+pub slice_bounds-rate-end-3 : goal.slice_bounds-rate-end-3
+slice_bounds-rate-end-3 c =
+    (zeros-part {n = c.args.head.pages * 4096} 32768 (omega (arith, (room (goal.at.slice_bounds-rate-end-3 c).Else-not-room_for).pages))).long
+
+pub slice_bounds-slots-end : goal.slice_bounds-slots-end
+slice_bounds-slots-end c = (zeros-part 4096 (room (goal.at.slice_bounds-slots-end c).Else-not-room_for).slots).inside
+
+pub slice_bounds-rate-end-4 : goal.slice_bounds-rate-end-4
+slice_bounds-rate-end-4 c = (zeros-part 4096 (room (goal.at.slice_bounds-rate-end-4 c).Else-not-room_for).slots).long
+
+pub slice_bounds-spare-end : goal.slice_bounds-spare-end
+slice_bounds-spare-end c = (zeros-part 4096 (room (goal.at.slice_bounds-spare-end c).Else-not-room_for).slots).inside
+
+pub slice_bounds-rate-end-5 : goal.slice_bounds-rate-end-5
+slice_bounds-rate-end-5 c = (zeros-part 4096 (room (goal.at.slice_bounds-rate-end-5 c).Else-not-room_for).slots).long
+
+pub rate-requires : goal.rate-requires
+rate-requires c =
+    let f = room (goal.at.rate-requires c).Else-not-room_for in (
+      c.requires.0,
+      search rules,
+      c.requires.2,
+      rw c.requires.1 (budget_small _),
+      c.join-total.ensures.1,
+      lent_of_parts c.args.head (zeros-part 4096 f.frames) (zeros-part {n = c.args.head.pages * 4096} 32768 (omega (arith, f.pages))) (zeros-part 4096 f.slots)
+          (zeros-part 4096 f.slots),
+    )
+
+pub returns : goal.returns
+unfolding image_text
+returns c = rw (sym c.room_for.ensures ∙ c.if-not-room_for.false) c.rate.ensures
