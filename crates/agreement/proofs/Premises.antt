@@ -21,7 +21,7 @@ use Rattle.effects.specs.Effect.{effect_of, word_effect}
 use Rattle.vm.specs.Core.{◌⊑◌, used, needs, short, spent, set_frames, set_pc, set_pages, set_bytes}
 use Rattle.vm.specs.Run.{provided, forward, apply, fetched, asked, unless, limited, step, after, go, root, entered}
 use Rattle.vm.specs.Names.{filled, boxed}
-use Rattle.vm.specs.Machine.{Lent, Machine, sizes, memory_of, view, with_pages, with_frames, traced, Call, run, Answer, ended, ran_out, ran, runs, run_call}
+use Rattle.vm.specs.Machine.{Lent, sizes, memory_of, view, with_pages, with_frames, traced, Call, run, ended, ran_out, ran, runs, run_call}
 use Rattle.vm.specs.Machine.{act, frames_ok, heap_ok, slots_ok, returns_ok, frames_belong, pages_belong, tests_by, tests, tried, perform, begun}
 use Rattle.vm.specs.Machine.{first_page, first_memory, blank, begin, starts, start}
 use Rattle.agreement.specs.Demand3.{Pair, Cut, CutAt, Agree, Demand3}
