@@ -1,15 +1,13 @@
--- Worked cases beside those that document 01 marks (P), which stand in `corners`: one table, and the one fact, by computation, that all its rows
--- hold. The ends of a division, `CastToBool`, `BEq` and the one NaN are document 01's, the sign of a remainder is the Rust's, the sums, the
--- comparison and the double of -2^63 are IEEE 754's. Assumes nothing.
-use Rattle.std.specs.Prelude.{◌≡◌, ℕ, ◌+◌, ◌-◌, ◌^◌, true, List, [], ◌∷◌, refl}
+-- Worked cases beside those that document 01 marks (P), which stand in `corners`: one table; the one fact, by computation, that all its rows
+-- hold is `all_hold` of proofs/Cases.antt. The ends of a division, `CastToBool`, `BEq` and the one NaN are document 01's, the sign of a
+-- remainder is the Rust's, the sums, the comparison and the double of -2^63 are IEEE 754's. Definitions only.
+use Rattle.std.specs.Prelude.{ℕ, ◌+◌, ◌-◌, ◌^◌, List, [], ◌∷◌}
 use Rattle.std.specs.Bool.{beq}
 use Rattle.std.specs.Float.Ieee as Ieee
-use Rattle.std.specs.Float.Ieee.{is_nan, of_bits, to_bits, of_int}
-use Rattle.memory.specs.Rows.{hold}
 use Rattle.value.specs.declared.int.Divided.{Divided}
 use Rattle.value.specs.declared.int.Divided.TheVariants.{Exact, ByZero, Overflow}
-use Rattle.value.specs.Int.{signed, pattern, divided, quotient_of, remainder_of}
-use Rattle.value.specs.Double.{double, bits, on}
+use Rattle.value.specs.Int.{quotient_of, remainder_of}
+use Rattle.value.specs.Double.{double, on}
 use Rattle.value.specs.Cast.{truth, bit, cast_to_bool, cast_to_double}
 
 -- the pattern of the integer -n
@@ -50,7 +48,3 @@ rows =
     ∷ (on Ieee.mul 0xfff8_0000_0000_1234 0x3ff0_0000_0000_0000, 0x7ff8_0000_0000_0000)
     ∷ (bit (Ieee.lt (double 0) (double 0x7ff8_0000_0000_0000)), 0)
     ∷ []
-
-pub all_hold : hold rows ≡ true
-unfolding rows hold signed pattern divided bits is_nan of_bits to_bits of_int Ieee.add Ieee.sub Ieee.mul Ieee.div Ieee.lt
-all_hold = refl
