@@ -1,6 +1,7 @@
 //! The original Rust and a model of document 01, side by side.
 pub mod anomaly;
 pub mod case;
+pub mod casts;
 pub mod compare;
 pub mod comparison;
 pub mod conditions;

@@ -3,5 +3,5 @@ pub mod Patterns
 pub mod Product
 pub mod Divides
 pub mod Nans
-pub mod Ends
+pub mod Fields
 pub mod Cases

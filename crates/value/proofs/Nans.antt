@@ -15,7 +15,7 @@ made : quiet ≡ nan
 unfolding div of_bits
 made = refl
 
-only_nan : (x : Float) → is_nan x ≡ true → x ≡ nan
+pub only_nan : (x : Float) → is_nan x ≡ true → x ≡ nan
 unfolding is_nan
 only_nan nan h = refl
 only_nan (inf s) h = absurd (true≢false (sym h))
@@ -32,7 +32,7 @@ up_to_infinity p h = rw (nan_bits_above binary64 p, le-ltb 0x7ff0_0000_0000_0000
 
 -- ---- to bits
 
-pub differs : (x : Float) → ne x x ≡ true → x ≡ nan
+differs : (x : Float) → ne x x ≡ true → x ≡ nan
 differs x h = differs_from_itself x (subst T (sym h) tt)
 
 pub no_nan : (x : Float) → ne x x ≡ false → T (not (is_nan x))

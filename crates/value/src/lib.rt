@@ -16,7 +16,18 @@ const SIGN: u64 = 0x8000_0000_0000_0000;
 
 const INFINITY: u64 = 0x7ff0_0000_0000_0000;
 
-const TWO_63: f64 = 9223372036854775808.0;
+// IEEE 754, 3.4, of binary64: a pattern is a sign S, a biased exponent E of w = 11 bits and a trailing
+// significand T of p - 1 = 52 bits. This is the weight of E.
+const EXPONENT: u64 = 0x10_0000_0000_0000;
+
+// E of an infinity or a NaN, 2^w - 1.
+const ALL_ONES: u64 = 2047;
+
+// E of 1.
+const BIAS: u64 = 1023;
+
+// E of 2^63: 1,086.
+const TWO_63: u64 = BIAS + 63;
 
 #[derive(Clone, Copy)]
 pub struct Value(pub u64);
@@ -100,21 +111,44 @@ impl Value {
         Value::from_f64(std::num::nearest_i64_to_f64(self.as_int()))
     }
 
-    // CastToInt: toward zero, to the nearer end where the number is outside an i64, and 0 for a NaN.
+    // CastToInt: toward zero, to the nearer end where the number is outside an i64, and 0 for a NaN. By cases
+    // on E, in the order of IEEE 754, 3.4.
     pub fn f64_to_int(self) -> Value
         ensures { result.0 ≡ cast_to_int self.0 }
     {
-        let x = self.as_f64();
-        if x >= -TWO_63 {
-            if x < TWO_63 {
-                return Value::from_int(std::num::truncating_f64_to_i64(x));
+        let sign = self.0 / SIGN;
+        let exponent = self.0 % SIGN / EXPONENT;
+        let trailing = self.0 % EXPONENT;
+        if exponent >= TWO_63 {
+            // a) "If E = 2^w - 1 and T ≠ 0, then r is qNaN or sNaN and v is NaN regardless of S"
+            if (exponent == ALL_ONES) & (trailing != 0) {
+                return Value(0);
             }
-            return Value::MAX;
+            // b) "If E = 2^w - 1 and T = 0, then r and v = (-1)^S × (+∞)", and c), below, from 1,086 on, where
+            // 2^(E-bias) is 2^63 or more: the end of the range by sign
+            if sign == 0 {
+                return Value::MAX;
+            }
+            // -2^63 is that end itself
+            if (exponent == TWO_63) & (trailing == 0) {
+                return Value::MIN;
+            }
+            return Value::MIN;
         }
-        if x != x {
-            return Value(0);
+        // c) "If 1 ≤ E ≤ 2^w - 2, then .. v = (-1)^S × 2^(E-bias) × (1 + 2^(1-p) × T)". From 1,023 to 1,085: of
+        // 2^63 × (1 + 2^(1-p) × T), here the significand, 63 - (E-bias) digits are behind the point, and cut
+        if exponent >= BIAS {
+            let significand = SIGN + (trailing << 11);
+            let size = significand >> (63 - (exponent - BIAS));
+            if sign == 1 {
+                return Value(std::num::wrapping_sub_u64(0, size));
+            }
+            return Value(size);
         }
-        Value::MIN
+        // Below 1,023 that is below 1 in size, and so are
+        // d) "If E = 0 and T ≠ 0, then .. v = (-1)^S × 2^emin × (0 + 2^(1-p) × T)" and
+        // e) "If E = 0 and T = 0, then .. v = (-1)^S × (+0)"
+        Value(0)
     }
 
     // SEq compares values: a name is interned once.

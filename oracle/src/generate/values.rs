@@ -81,10 +81,14 @@ pub fn special(rng: &mut Rng) -> u64 {
 pub fn double(rng: &mut Rng) -> u64 {
     match rng.below(3) {
         0 => special(rng),
-        // about where the casts change: from 1/8 up to 2^68
-        1 => rng.word() & 0x800f_ffff_ffff_ffff | rng.from_to(1020, 1090) << 52,
+        1 => about_the_casts(rng),
         _ => rng.word(),
     }
+}
+
+/// About where the casts change: from 1/8 up to 2^68.
+pub fn about_the_casts(rng: &mut Rng) -> u64 {
+    rng.word() & 0x800f_ffff_ffff_ffff | rng.from_to(1020, 1090) << 52
 }
 
 /// A finite one of moderate size, for arithmetic that should not come to a NaN.

@@ -1,21 +1,37 @@
--- `value::Value::f64_to_int` meets its contract. Assumes nothing.
-use Rattle.value.proofs.Patterns.{kept}
-use Rattle.value.proofs.Ends.{inside, top_end, bottom_end, of_nan}
+-- `value::Value::f64_to_int` meets its contract: a law for each case, in the order of IEEE 754, 3.4. Assumes nothing.
+use Rattle.std.proofs.Common.{arith}
+use lib.Ieee.{nan_bits}
+use Rattle.value.proofs.Fields.{nan_is_0, top_end, bottom_end, size-kept, size_negated, below-one-is_0}
 use Rattle.value.proofs.Value.f64_to_int.Goals as goal
 
-pub truncating_f64_to_i64-requires : goal.truncating_f64_to_i64-requires
-truncating_f64_to_i64-requires c =
-    let both = inside c.as_f64-x.result c.if-x.true c.if-x-2.true in
-    record { lower_bound = both.0; upper_bound = both.1 }
+pub returns-then-exponent-trailing : goal.returns-then-exponent-trailing
+unfolding nan_bits
+returns-then-exponent-trailing c =
+    nan_is_0 c.args.self.0 c.if-exponent-trailing.true
 
-pub returns-then-x-2 : goal.returns-then-x-2
-returns-then-x-2 c = let n = c.truncating_f64_to_i64 in cc (kept n.result n.type_inv)
+pub returns-then-sign-eq0 : goal.returns-then-sign-eq0
+unfolding nan_bits
+returns-then-sign-eq0 c =
+    top_end c.args.self.0 (omega arith) c.if-exponent-trailing.false (omega arith)
 
-pub returns-then-x : goal.returns-then-x
-returns-then-x c = cc (top_end c.as_f64-x.result c.if-x.true c.if-x-2.false)
+pub returns-then-exponent-trailing-2 : goal.returns-then-exponent-trailing-2
+unfolding nan_bits
+returns-then-exponent-trailing-2 c =
+    bottom_end c.args.self.0 (omega arith) c.if-exponent-trailing.false (omega arith)
 
-pub returns-then-x-3 : goal.returns-then-x-3
-returns-then-x-3 c = cc (of_nan c.as_f64-x.result c.if-x-3.true)
+pub returns-then-exponent-ge-TWO_63 : goal.returns-then-exponent-ge-TWO_63
+unfolding nan_bits
+returns-then-exponent-ge-TWO_63 c =
+    bottom_end c.args.self.0 (omega arith) c.if-exponent-trailing.false (omega arith)
+
+pub returns-then-sign-eq1 : goal.returns-then-sign-eq1
+returns-then-sign-eq1 c =
+    size_negated c.args.self.0 (omega arith) (omega arith) (omega arith)
+    c.wrapping_sub_u64.result (omega arith) c.wrapping_sub_u64.ensures.value
+
+pub returns-then-exponent-ge-BIAS : goal.returns-then-exponent-ge-BIAS
+returns-then-exponent-ge-BIAS c =
+    size-kept c.args.self.0 (omega arith) (omega arith) (omega arith)
 
 pub returns : goal.returns
-returns c = cc (bottom_end c.as_f64-x.result c.if-x.false c.if-x-3.false)
+returns c = below-one-is_0 c.args.self.0 (omega arith)
