@@ -38,24 +38,24 @@ pub returns : goal.returns
 returns c =
     joined-there (image_said c.args.input.now)
     (laid_more (laid_more (laid_more (laid_more (laid_more (laid_more (laid_more (laid_more (laid_more (laid_first _)
-        c.put_section-code.ensures)
-        c.put_section-globals.ensures)
-        c.put_section-switch_firsts.ensures)
-        c.put_section-switch_ends.ensures)
-        c.put_section-switch_entries.ensures)
-        c.put_section-lookup_firsts.ensures)
-        c.put_section-lookup_ends.ensures)
-        c.put_section-lookup_entries.ensures)
-        c.put_section-defaults.ensures)
+    c.put_section-code.ensures)
+    c.put_section-globals.ensures)
+    c.put_section-switch_firsts.ensures)
+    c.put_section-switch_ends.ensures)
+    c.put_section-switch_entries.ensures)
+    c.put_section-lookup_firsts.ensures)
+    c.put_section-lookup_ends.ensures)
+    c.put_section-lookup_entries.ensures)
+    c.put_section-defaults.ensures)
     (flat_nine _ _ _ _ _ _ _ _ _)
     (ends_nine _ _ _ _ _ _ _ _ _
-        c.put_section-code.ensures.ends
-        c.put_section-globals.ensures.ends
-        c.put_section-switch_firsts.ensures.ends
-        c.put_section-switch_ends.ensures.ends
-        c.put_section-switch_entries.ensures.ends
-        c.put_section-lookup_firsts.ensures.ends
-        c.put_section-lookup_ends.ensures.ends
-        c.put_section-lookup_entries.ensures.ends
-        c.put_section-defaults.ensures.ends)
+    c.put_section-code.ensures.ends
+    c.put_section-globals.ensures.ends
+    c.put_section-switch_firsts.ensures.ends
+    c.put_section-switch_ends.ensures.ends
+    c.put_section-switch_entries.ensures.ends
+    c.put_section-lookup_firsts.ensures.ends
+    c.put_section-lookup_ends.ensures.ends
+    c.put_section-lookup_entries.ensures.ends
+    c.put_section-defaults.ensures.ends)
     c.put_ends.ensures c.requires
