@@ -3,3 +3,4 @@ pub mod Tests
 pub mod Tables
 pub mod Images
 pub mod Layouts
+pub mod Worked
