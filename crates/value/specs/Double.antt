@@ -1,5 +1,5 @@
 -- A register's 64 bits as an IEEE 754 binary64 number, the bits that are written for a number, and an operation on two registers.
--- The order of two registers is `lt` of `lib.Ieee`, on their numbers. Definitions only.
+-- The order of two registers is `lt` of std's `Float.Ieee`, on their numbers. Definitions only.
 use Rattle.std.specs.Prelude.{ℕ, cond, from_bits, is_nan, to_bits, Float}
 use Rattle.std.specs.Float.{Format, binary64}
 

@@ -1,5 +1,5 @@
 -- A register's 64 bits as a signed integer, in two's complement, and the quotient and the remainder of two registers.
--- The order of two registers is `lt_z` of `lib.Signed`, on their integers. Definitions only.
+-- The order of two registers is `int_lt` of std, on their integers. Definitions only.
 use Rattle.std.specs.Prelude.{ℕ, suc, ◌-◌, ◌^◌, Bool, cond, ◌&&◌, ℤ, pos, negsuc, ◌==◌, int_div, int_rem, nat_lt}
 use Rattle.value.specs.declared.int.Divided.{Divided}
 use Rattle.value.specs.declared.int.Divided.TheVariants.{Exact, ByZero, Overflow}
