@@ -4,7 +4,7 @@ use crate::generate::program::word;
 use crate::generate::rng::Rng;
 use crate::generate::values;
 use crate::image::Image;
-use crate::machine::{Answer, Call, Lent, Machine, SMALL_PAGE};
+use crate::machine::{Answer, Call, Lent, Machine, PAGE};
 use crate::model::value::is_nan;
 use crate::model::word::op;
 use std::fmt;
@@ -101,7 +101,7 @@ pub fn compare(patterns: impl Iterator<Item = u64>, mut cast: impl FnMut(&mut [u
 pub fn by_machine<M: Machine>() -> impl FnMut(&mut [u64]) {
     let each = (0..REGISTERS as u64).map(|r| word(op::CastToInt, r, r, 0, 0));
     let images = [Image { code: each.chain([op::Halt.into()]).collect(), ..Image::default() }];
-    let lent = Lent { base: 0x1000_0000, page_size: SMALL_PAGE, heap: SMALL_PAGE, frames: 1, slots: 64, spare: 64, trace: 0, fill: 0 };
+    let lent = Lent { base: 0x1000_0000, heap: PAGE, frames: 1, slots: 64, spare: 64, fill: 0 };
     let mut machine = M::start(lent, &images[0]).unwrap_or_else(|number| panic!("the start is refused by {number}"));
     move |patterns| {
         for (register, &value) in (0..).zip(&*patterns) {
