@@ -1,14 +1,14 @@
 -- The tests of an interning, 10 and 9, and what they leave. Assumes nothing.
 use mathlib.Core.Path.{◌≡◌, refl, sym}
 use Prim.Native.Nat.{ℕ, ◌*◌, ◌≤◌}
-use mathlib.Core.Bool.{Bool, true, false, not, ◌&&◌, ◌||◌}
+use mathlib.Core.Bool.{Bool, true, false, ◌&&◌, ◌||◌}
 use mathlib.Core.Option.{none, some}
 use mathlib.Core.List.{List, []}
 use native.Mathlib.Omega.{arith}
 use lib.ListN.{length, take}
 use lib.Seq.{length-take-le}
 use lib.Dec.{eqb}
-use borrow.Author.Tests.{leb-true, eqb-true, not-true, not-false}
+use borrow.Author.Tests.{leb-true, eqb-true}
 use Rattle.memory.proofs.Tests.{both}
 use Rattle.str_table.specs.declared.StrTable.{StrTable}
 use Rattle.str_table.specs.Sound as Table
@@ -49,19 +49,19 @@ module _ (rest : State) (l : Lent) (g : Gc) (t : StrTable) (heap slots spare : L
   own = name_tests (found (holding rest g t) (lend_names heap slots spare l))
 
   module _ {a b : Bool} (e : a ≡ heap_ok g.base (length heap)) (f : b ≡ slots_ok (length slots) (length spare)) where
-    pub tested_10 : not (a && b) ≡ true → some 10 ≡ failing own
+    pub tested_10 : (a && b) ≡ false → some 10 ≡ failing own
     unfolding failing
-    tested_10 h = rw (← e, ← f, not-true (a && b) h, failing) refl
+    tested_10 h = rw (← e, ← f, h, failing) refl
 
-    module _ (h : not (a && b) ≡ false) {c d : Bool} (i : c ≡ Heap.sound_of g (length heap))
+    module _ (h : (a && b) ≡ true) {c d : Bool} (i : c ≡ Heap.sound_of g (length heap))
         (j : d ≡ Table.sound_of g.base g.pushed t slots) where
-      pub tested_9 : not (c && d) ≡ true → some 9 ≡ failing own
+      pub tested_9 : (c && d) ≡ false → some 9 ≡ failing own
       unfolding failing names_belong pages_belong
-      tested_9 k = rw (← e, ← f, not-false (a && b) h, ← i, ← j, not-true (c && d) k, failing) refl
+      tested_9 k = rw (← e, ← f, h, ← i, ← j, k, failing) refl
 
-      pub tested_fine : not (c && d) ≡ false → none ≡ failing own
+      pub tested_fine : (c && d) ≡ true → none ≡ failing own
       unfolding failing names_belong pages_belong
-      tested_fine k = rw (← e, ← f, not-false (a && b) h, ← i, ← j, not-false (c && d) k, failing) refl
+      tested_fine k = rw (← e, ← f, h, ← i, ← j, k, failing) refl
 
 -- the tests look at no other part of a state, so any will do
 pub belong : (g : Gc) (t : StrTable) (heap slots spare : List ℕ)

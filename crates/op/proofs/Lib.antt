@@ -1,5 +1,4 @@
 -- Laws of the definitions of `op`. `Sound` and `Places` are for callers.
-pub mod Arms
 pub mod Masks
 pub mod Rows
 pub mod Checks

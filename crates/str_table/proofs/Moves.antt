@@ -1,14 +1,14 @@
 -- Placing the old slots again, and room for one name more. Assumes nothing.
 use mathlib.Core.Path.{◌≡◌, refl, sym, ap, ◌∙◌}
 use Prim.Native.Nat.{ℕ, ◌+◌, ◌*◌, ◌≤◌, ◌<◌}
-use mathlib.Core.Bool.{Bool, true, false, cond, not}
+use mathlib.Core.Bool.{Bool, true, false, cond}
 use mathlib.Core.List.{List, [], ◌∷◌, ◌++◌}
 use native.Mathlib.Omega.{arith}
 use native.Mathlib.Numerals.{add-one}
 use lib.ListN.{length, get_or, take, drop, replicate, length-replicate, drop_of_length-le}
 use lib.Seq.{drop-cons, length-take-le, take_at, drop_at}
 use lib.Dec.{leb, ltb, eqb}
-use borrow.Author.Tests.{eq-eqb, ne_eqb, eqb-true, eqb-false, le-leb, lt-leb, leb-true, ltb-false, lt-ltb, le-ltb, not-true, not-false}
+use borrow.Author.Tests.{eq-eqb, ne_eqb, eqb-true, eqb-false, le-leb, lt-leb, leb-true, ltb-false, lt-ltb, le-ltb}
 use Rattle.memory.specs.Lists.{over}
 use Rattle.memory.proofs.Over.{over-is, over-take, take-over, length_over, front_returned}
 use Rattle.str_table.specs.declared.StrTable.{StrTable}
@@ -19,13 +19,13 @@ use Rattle.str_table.proofs.Probes.{length-placed}
 
 -- the hash in a header, by what `header_in` answered
 module _ (base : ℕ) (heap : List ℕ) (v : ℕ) (found : Bool) (e : found ≡ reaches base (length heap) v 8) where
-  pub hash_read : not found ≡ false → hash_at base heap v ≡ stored_hash base heap v
+  pub hash_read : found ≡ true → hash_at base heap v ≡ stored_hash base heap v
   unfolding stored_hash
-  hash_read t = rw (sym e ∙ not-false found t) refl
+  hash_read t = rw (sym e ∙ t) refl
 
-  pub hash_absent : not found ≡ true → 0 ≡ stored_hash base heap v
+  pub hash_absent : found ≡ false → 0 ≡ stored_hash base heap v
   unfolding stored_hash
-  hash_absent t = rw (sym e ∙ not-true found t) refl
+  hash_absent t = rw (sym e ∙ t) refl
 
 length-moved_one : (z : Bool) (base : ℕ) (heap : List ℕ) (v : ℕ) (t : List ℕ) → length (moved_one z base heap v t) ≡ length t
 unfolding moved_one

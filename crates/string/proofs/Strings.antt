@@ -1,14 +1,14 @@
 -- Strings in the pushed bytes: written, found at an address, compared. Assumes nothing.
 use mathlib.Core.Path.{◌≡◌, refl, sym, ap, ap₂, ◌∙◌}
 use Prim.Native.Nat.{ℕ, ◌+◌, ◌-◌, ◌^◌, ◌≤◌, ◌<◌}
-use mathlib.Core.Bool.{Bool, true, false, not, ◌&&◌, and-false}
+use mathlib.Core.Bool.{Bool, true, false, ◌&&◌, and-false}
 use mathlib.Core.List.{List, ◌++◌, append_assoc}
 use native.Mathlib.Omega.{arith}
 use native.Mathlib.Nat.{zero-add}
 use lib.ListN.{length, take, drop, length-append, length-drop}
 use lib.Seq.{length-take-le}
 use lib.Dec.{leb, eqb}
-use borrow.Author.Tests.{le-leb, lt-leb, leb-true, leb-false, eq-eqb, ne_eqb, not-true, not-false}
+use borrow.Author.Tests.{le-leb, lt-leb, leb-true, leb-false, eq-eqb, ne_eqb}
 use Rattle.memory.specs.Bytes.{bytes_of, value_of}
 use Rattle.memory.specs.Lists.{over, write, same, part}
 use Rattle.memory.proofs.Tests.{both, leb_minus}
@@ -68,15 +68,15 @@ within base n v k e =
     record { above = leb-true _ _ tests.0; ends = leb-true _ _ tests.1 }
 
 -- by what `header_in` answered
-pub header_found : (base n v : ℕ) (found : Bool) → found ≡ reaches base n v 8 → not found ≡ false → Within base n v 8
-header_found base n v found e t = within base n v 8 (sym e ∙ not-false found t)
+pub header_found : (base n v : ℕ) (found : Bool) → found ≡ reaches base n v 8 → found ≡ true → Within base n v 8
+header_found base n v found e t = within base n v 8 (sym e ∙ t)
 
 module _ (base : ℕ) (heap : List ℕ) (len hash v : ℕ) where
   -- no header: no string
-  pub no_header : (found : Bool) → found ≡ reaches base (length heap) v 8 → not found ≡ true
+  pub no_header : (found : Bool) → found ≡ reaches base (length heap) v 8 → found ≡ false
       → Other ≡ bytes_from (headed base heap len hash v) (v - base + 8)
   unfolding headed bytes_from reaches
-  no_header found i t = go (leb base v) (leb (v - base + 8) (length heap)) refl refl (sym i ∙ not-true found t)
+  no_header found i t = go (leb base v) (leb (v - base + 8) (length heap)) refl refl (sym i ∙ t)
     where
       go : (t u : Bool) → leb base v ≡ t → leb (v - base + 8) (length heap) ≡ u → (t && u) ≡ false
           → Other ≡ bytes_from (headed base heap len hash v) (v - base + 8)

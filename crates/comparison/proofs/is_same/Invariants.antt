@@ -1,4 +1,4 @@
--- `comparison::is_same` its loops. Assumes nothing.
+-- The loops of `comparison::is_same`. Assumes nothing.
 use Prim.Native.Nat.{◌-◌}
 use mathlib.Core.Path.{◌≡◌}
 use lib.ListN.{length, drop}

@@ -1,10 +1,8 @@
 -- `image_runner::answer_image` meets its contract. Assumes nothing.
-use Rattle.std.proofs.Common.{ap, not}
 use mathlib.Core.Path.{sym, ◌∙◌}
 use Prim.Native.Nat.{◌*◌}
 use native.Mathlib.Omega.{arith}
 use lib.ListN.{length-replicate}
-use borrow.Author.Tests.{not-false}
 use Rattle.text.proofs.Numbers.{budget_small}
 use Rattle.image_runner.specs.Runner.{image_text}
 use Rattle.outcome.proofs.Texts.{refusal_says}
@@ -15,7 +13,7 @@ use Rattle.image_runner.proofs.answer_image.Goals as goal
 use Rattle.image_runner.proofs.answer_image.Goals.{Else-not-room_for}
 
 room : (c : Else-not-room_for) → Fits c.args.head c.args.input.now
-room c = fitting _ _ (sym c.room_for.ensures ∙ not-false _ (ap not c.if-not-room_for.false))
+room c = fitting _ _ (sym c.room_for.ensures ∙ c.if-not-room_for.false)
 
 pub returns-then-not-room_for : goal.returns-then-not-room_for
 unfolding image_text

@@ -37,4 +37,6 @@ pub returns : goal.returns
 unfolding write
 returns c =
     let args = c.args in
-    sets_write (args.code ∷ args.globals ∷ args.switch_firsts ∷ args.switch_ends ∷ args.switch_entries ∷ args.lookup_firsts ∷ args.lookup_ends ∷ args.lookup_entries ∷ args.defaults ∷ []) args.words.now 0
+    sets_write
+    (args.code ∷ args.globals ∷ args.switch_firsts ∷ args.switch_ends ∷ args.switch_entries
+    ∷ args.lookup_firsts ∷ args.lookup_ends ∷ args.lookup_entries ∷ args.defaults ∷ []) args.words.now 0

@@ -1,4 +1,4 @@
--- `memory::clear_bytes` its loops. Assumes nothing.
+-- The loops of `memory::clear_bytes`. Assumes nothing.
 use Prim.Native.Nat.{◌-◌}
 use lib.ListN.{length}
 use Rattle.memory.proofs.Fills.{Copied, zeros}

@@ -1,4 +1,4 @@
--- `memory::copy_words` its loops. Assumes nothing.
+-- The loops of `memory::copy_words`. Assumes nothing.
 use Prim.Native.Nat.{◌-◌}
 use lib.ListN.{length}
 use Rattle.memory.proofs.Fills.{Copied}

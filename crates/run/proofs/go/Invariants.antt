@@ -1,4 +1,4 @@
--- `run::go` its loops. Assumes nothing.
+-- The loops of `run::go`. Assumes nothing.
 use Rattle.std.proofs.Common.{◌≡◌, length}
 use Rattle.program.specs.Words.{cut}
 use Rattle.vm.specs.Machine.{Lent, lend_run}

@@ -1,4 +1,4 @@
--- `str_table::get` its loops. Assumes nothing.
+-- The loops of `str_table::get`. Assumes nothing.
 use Prim.Native.Nat.{◌-◌}
 use Rattle.string.specs.Payload.{holds}
 use Rattle.str_table.proofs.Probes.{Probing}

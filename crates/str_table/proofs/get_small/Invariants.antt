@@ -1,4 +1,4 @@
--- `str_table::get_small` its loops. Assumes nothing.
+-- The loops of `str_table::get_small`. Assumes nothing.
 use Prim.Native.Nat.{◌-◌}
 use Rattle.string.specs.Payload.{holds, small_name}
 use Rattle.str_table.proofs.Probes.{Probing}

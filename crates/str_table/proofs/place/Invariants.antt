@@ -1,4 +1,4 @@
--- `str_table::place` its loops. Assumes nothing.
+-- The loops of `str_table::place`. Assumes nothing.
 use mathlib.Core.Path.{◌≡◌}
 use Prim.Native.Nat.{◌-◌}
 use lib.ListN.{length}

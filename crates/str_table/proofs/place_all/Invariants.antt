@@ -1,4 +1,4 @@
--- `str_table::place_all` its loops. Assumes nothing.
+-- The loops of `str_table::place_all`. Assumes nothing.
 use Prim.Native.Nat.{◌-◌}
 use lib.ListN.{length}
 use Rattle.str_table.proofs.Moves.{Moving}

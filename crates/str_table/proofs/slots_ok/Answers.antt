@@ -1,8 +1,6 @@
 -- `str_table::slots_ok` meets its contract. Assumes nothing.
-use Rattle.std.proofs.Common.{ap, not}
 use mathlib.Core.Path.{sym, ◌∙◌}
 use native.Mathlib.Omega.{arith}
-use borrow.Author.Tests.{not-true}
 use Rattle.str_table.proofs.Counting.{counting_start, counting_skip, counting_one, bad_header, bad_count, half_full}
 use Rattle.str_table.proofs.slots_ok.Goals as goal
 use Rattle.str_table.proofs.slots_ok.Goals.{then-v-ne-EMPTY+else-not-header_in, else-v-ne-EMPTY}
@@ -13,7 +11,7 @@ loop-i-init c = counting_start _ _ _
 pub returns-then-not-header_in : goal.returns-then-not-header_in
 returns-then-not-header_in c =
     bad_header _ _ _ _ _ c.loop-i.invariant _ c.loop-i-test.true c.if-v-ne-EMPTY.true
-    (sym c.header_in.ensures ∙ not-true _ (ap not c.if-not-header_in.true))
+    (sym c.header_in.ensures ∙ c.if-not-header_in.true)
 
 pub loop-i-preserved : goal.loop-i-preserved
 loop-i-preserved c =

@@ -1,4 +1,4 @@
--- `str_table::slots_ok` its loops. Assumes nothing.
+-- The loops of `str_table::slots_ok`. Assumes nothing.
 use Prim.Native.Nat.{◌-◌}
 use lib.ListN.{length}
 use Rattle.str_table.proofs.Counting.{Counting}

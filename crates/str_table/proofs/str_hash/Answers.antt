@@ -1,5 +1,4 @@
 -- `str_table::str_hash` meets its contract. Assumes nothing.
-use Rattle.std.proofs.Common.{ap, not}
 use mathlib.Core.Path.{◌∙◌}
 use native.Mathlib.Omega.{arith}
 use lib.ListN.{length}
@@ -13,10 +12,10 @@ abbrev Header : Else-not-header_in → Type 0
 Header c = let a = c.args in Within a.base (length a.heap.now) a.v 8
 
 header : (c : Else-not-header_in) → Header c
-header c = header_found _ _ _ _ c.header_in.ensures (ap not c.if-not-header_in.false)
+header c = header_found _ _ _ _ c.header_in.ensures c.if-not-header_in.false
 
 pub returns-then-not-header_in : goal.returns-then-not-header_in
-returns-then-not-header_in c = hash_absent _ _ _ _ c.header_in.ensures (ap not c.if-not-header_in.true)
+returns-then-not-header_in c = hash_absent _ _ _ _ c.header_in.ensures c.if-not-header_in.true
 
 pub overflow_sub-at : goal.overflow_sub-at
 overflow_sub-at c = omega (arith, header c)
@@ -28,4 +27,4 @@ pub load4-requires : goal.load4-requires
 load4-requires c = omega (arith, header c)
 
 pub returns : goal.returns
-returns c = c.load4.ensures.0 ∙ hash_read _ _ _ _ c.header_in.ensures (ap not c.if-not-header_in.false)
+returns c = c.load4.ensures.0 ∙ hash_read _ _ _ _ c.header_in.ensures c.if-not-header_in.false

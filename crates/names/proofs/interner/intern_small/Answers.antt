@@ -1,9 +1,7 @@
 -- `names::interner::intern_small` meets its contract. Assumes nothing.
-use Rattle.std.proofs.Common.{ap, not}
 use mathlib.Core.Path.{◌≡◌, refl, sym, ◌∙◌}
 use mathlib.Core.Bool.{true}
 use mathlib.Core.Option.{none}
-use borrow.Author.Tests.{not-false}
 use lib.Seq.{length-take-le}
 use Rattle.program.specs.Image.{failing}
 use Rattle.vm.specs.declared.State.{State}
@@ -30,7 +28,7 @@ belongs c = belong _ _ _ _ _ (fine c)
 
 -- and 17
 small : (c : Else-not-small_ok) → small_ok c.args.len c.args.word ≡ true
-small c = sym c.small_ok.ensures ∙ not-false _ (ap not c.if-not-small_ok.false)
+small c = sym c.small_ok.ensures ∙ c.if-not-small_ok.false
 
 pub returns-then-not-small_ok : goal.returns-then-not-small_ok
 unfolding said_of

@@ -1,4 +1,4 @@
--- `program::loader::rising` its loops. Assumes nothing.
+-- The loops of `program::loader::rising`. Assumes nothing.
 use mathlib.Core.Path.{◌≡◌}
 use Prim.Native.Nat.{◌-◌}
 use lib.ListN.{length, drop}

@@ -1,4 +1,4 @@
--- `program::loader::words` its loops. Assumes nothing.
+-- The loops of `program::loader::words`. Assumes nothing.
 use mathlib.Core.Path.{◌≡◌}
 use Prim.Native.Nat.{◌-◌}
 use lib.ListN.{length, drop}

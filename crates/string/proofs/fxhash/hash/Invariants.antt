@@ -1,4 +1,4 @@
--- `string::fxhash::hash` its loops. Assumes nothing.
+-- The loops of `string::fxhash::hash`. Assumes nothing.
 use Prim.Native.Nat.{◌-◌}
 use lib.ListN.{length}
 use Rattle.string.proofs.Chunks.{Hashing}

@@ -1,5 +1,4 @@
 -- `string::payload::bytes_of` meets its contract. Assumes nothing.
-use Rattle.std.proofs.Common.{ap, not}
 use native.Mathlib.Omega.{arith}
 use lib.ListN.{length}
 use Rattle.string.proofs.Strings.{Within, header_found, no_header, other_length, other_hash, cut_short, stands}
@@ -11,10 +10,10 @@ abbrev Header : Else-not-header_in → Type 0
 Header c = let a = c.args in Within a.base (length a.heap.now) a.v 8
 
 header : (c : Else-not-header_in) → Header c
-header c = header_found _ _ _ _ c.header_in.ensures (ap not c.if-not-header_in.false)
+header c = header_found _ _ _ _ c.header_in.ensures c.if-not-header_in.false
 
 pub returns-then-not-header_in : goal.returns-then-not-header_in
-returns-then-not-header_in c = no_header _ _ _ _ _ _ c.header_in.ensures (ap not c.if-not-header_in.true)
+returns-then-not-header_in c = no_header _ _ _ _ _ _ c.header_in.ensures c.if-not-header_in.true
 
 pub overflow_sub-at : goal.overflow_sub-at
 overflow_sub-at c = omega (arith, header (goal.at.overflow_sub-at c).Else-not-header_in)

@@ -1,4 +1,4 @@
--- `string::payload::same_bytes` its loops. Assumes nothing.
+-- The loops of `string::payload::same_bytes`. Assumes nothing.
 use Prim.Native.Nat.{◌-◌}
 use lib.ListN.{length}
 use Rattle.memory.proofs.Same.{Comparing}

@@ -10,6 +10,7 @@ loop-left-init c = number-start _ _ _
 pub returns-then-p-i : goal.returns-then-p-i
 returns-then-p-i c = number_short _ _ _ _ _ _ c.loop-left.invariant c.if-p-i.true
 
+-- one digit more fits
 pub overflow_mul-w : goal.overflow_mul-w
 overflow_mul-w c = omega (arith, number_fits _ _ _ _ _ _ c.loop-left.invariant c.loop-left-test.true c.requires)
 
