@@ -20,3 +20,8 @@ module _ (page_size n : ℕ) (h : 0 < page_size) where
   pub grow_whole : grow_of page_size n % page_size ≡ 0
   unfolding grow_of
   grow_whole = mul-mod_left ((24 + n + (page_size - 1)) / page_size) page_size
+
+-- pages of 4,096 bytes: the least multiple that holds the block with its header and 8 bytes to spare
+pub grow-least_multiple : (n cap : ℕ) → 24 + n ≤ cap → cap < 24 + n + 4096 → cap % 4096 ≡ 0 → cap ≡ grow_of 4096 n
+unfolding grow_of
+grow-least_multiple n cap low high whole = omega arith

@@ -3,3 +3,4 @@ pub mod Growth
 pub mod Headers
 pub mod Blocks
 pub mod Soundness
+pub mod Types

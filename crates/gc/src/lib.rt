@@ -4,7 +4,7 @@
 
 ghost use Rattle.std.specs.Prelude.{◌≡◌, ◌+◌, ◌≤◌, ◌<◌, length};
 ghost use Rattle.memory.specs.Lists.{over};
-ghost use Rattle.gc.specs.Metadata.{bits_of, flags_of, header_of};
+ghost use Rattle.gc.specs.Metadata.{IsTypeOf, flags_of, header_of};
 ghost use Rattle.gc.specs.Pages.{grow_of, pushed};
 ghost use Rattle.gc.specs.Lent.{page_size, pages_of, numbers_of, outcome, fast_of, slow_of, alloc_of, growth, extended_in, sound_of, InHeap};
 
@@ -20,7 +20,7 @@ const PAYLOAD_ALIGN: usize = 8;
 const GROWTH: usize = Metadata::SIZE + PAYLOAD_ALIGN;
 
 // What a block holds.
-#[derive(Clone, Copy)]
+#[derive(Clone, Copy, Debug, PartialEq, Eq)]
 pub enum AllocType {
     Record,
     Array,
@@ -28,28 +28,22 @@ pub enum AllocType {
     String,
 }
 
-impl AllocType {
-    // The type of a number, which is tested before: refusal 13.
-    pub fn from_number(n: u64) -> AllocType
-        requires { n < 4 }
-        ensures { bits_of result ≡ n }
-    {
-        match n {
-            0 => AllocType::Record,
-            1 => AllocType::Array,
-            2 => AllocType::Option,
-            _ => AllocType::String,
-        }
-    }
+// A number that no type has: refusal 13.
+#[derive(Clone, Copy, Debug, PartialEq, Eq)]
+pub struct UnknownType(pub u64);
 
-    fn bits(self) -> u8
-        ensures { (result ≡ bits_of self) × (result < 4) }
-    {
-        match self {
-            AllocType::Record => 0,
-            AllocType::Array => 1,
-            AllocType::Option => 2,
-            AllocType::String => 3,
+impl TryFrom<u64> for AllocType {
+    type Error = UnknownType;
+
+    ghost try_from_gives = { IsTypeOf };
+
+    fn try_from(n: u64) -> Result<Self, UnknownType> {
+        match n {
+            0 => Ok(AllocType::Record),
+            1 => Ok(AllocType::Array),
+            2 => Ok(AllocType::Option),
+            3 => Ok(AllocType::String),
+            _ => Err(UnknownType(n)),
         }
     }
 }
@@ -74,14 +68,13 @@ impl Metadata {
     pub fn new(kind: AllocType, marked: bool, size: u64) -> Metadata
         ensures { (result.size ≡ size) × (result.flags ≡ flags_of kind marked) }
     {
-        let bits = kind.bits();
-        if marked {
-            return Metadata {
-                size,
-                flags: bits + Metadata::MARKED_FLAG,
-            };
-        }
-        Metadata { size, flags: bits }
+        let bits = kind as u8;
+        let flags = if marked {
+            bits + Metadata::MARKED_FLAG
+        } else {
+            bits
+        };
+        Metadata { size, flags }
     }
 
     // The header, at the beginning of the part of the heap that starts there.
@@ -103,120 +96,88 @@ pub struct Gc {
     pub len: usize,
 }
 
-// A block's address and the heap's numbers with it; or no block.
-#[derive(Clone, Copy)]
-pub enum Alloc {
-    At(u64, Gc),
-    Refused,
-}
-
-// The heap's numbers with one page more; or no page.
-#[derive(Clone, Copy)]
-pub enum Grown {
-    To(Gc),
-    Full,
-}
-
 impl Gc {
     // Whether the numbers can belong to pages in a heap of `lent` bytes: refusal 9.
     pub fn sound(self, lent: usize) -> bool
         ensures { result ≡ sound_of self lent }
     {
-        let pushed = self.pushed;
-        let page = self.page;
-        if pushed <= page {
+        if self.pushed <= self.page {
             return false;
         }
-        (pushed % PAGE_SIZE == 0)
-            & ((pushed <= lent) & ((page % PAGE_SIZE == 0) & (self.len <= pushed - page)))
+        (self.pushed % PAGE_SIZE == 0)
+            & ((self.pushed <= lent)
+                & ((self.page % PAGE_SIZE == 0) & (self.len <= self.pushed - self.page)))
     }
 
-    // A block in the last page, if that can hold it.
-    pub fn alloc_fast(self, m: Metadata, heap: &mut [u8]) -> Alloc
-        requires { InHeap self heap.old }
-        ensures { outcome result heap.new ≡ fast_of self m.flags m.size heap.old }
+    // A block in the last page, if that can hold it: its address.
+    pub fn alloc_fast(&mut self, m: Metadata, heap: &mut [u8]) -> Option<u64>
+        requires { InHeap self.old heap.old }
+        ensures { outcome result self.new heap.new ≡ fast_of self.old m.flags m.size heap.old }
     {
-        let base = self.base;
-        let pushed = self.pushed;
-        let page = self.page;
         // no sum below passes 2^64
         if (heap.len() as u64) < m.size {
-            return Alloc::Refused;
+            return None;
         }
-        let header = (self.len + 7) / 8 * 8;
+        let header = self.len.next_multiple_of(PAYLOAD_ALIGN);
         let len = header + Metadata::SIZE + m.size as usize;
-        if pushed - page < len {
-            return Alloc::Refused;
+        if self.pushed - self.page < len {
+            return None;
         }
-        let at = page + header;
+        let at = self.page + header;
         m.write(&mut heap[at..]);
-        let address = base + (at + Metadata::SIZE) as u64;
-        Alloc::At(
-            address,
-            Gc {
-                base,
-                pushed,
-                page,
-                len,
-            },
-        )
+        self.len = len;
+        Some(self.base + (at + Metadata::SIZE) as u64)
     }
 
     // A page of `cap` bytes behind the others, zeroed.
-    fn push_page(self, cap: usize, heap: &mut [u8]) -> Gc
-        requires { InHeap self heap.old × (self.pushed + cap ≤ length heap.old) }
-        ensures { (result ≡ numbers_of (pushed cap (pages_of self heap.old)))
-            × (heap.new ≡ over (pushed cap (pages_of self heap.old)).bytes heap.old) }
+    fn push_page(&mut self, cap: usize, heap: &mut [u8])
+        requires { InHeap self.old heap.old × (self.old.pushed + cap ≤ length heap.old) }
+        ensures { (self.new ≡ numbers_of (pushed cap (pages_of self.old heap.old)))
+            × (heap.new ≡ over (pushed cap (pages_of self.old heap.old)).bytes heap.old) }
     {
-        let page = self.pushed;
-        let pushed = page + cap;
-        memory::clear_bytes(&mut heap[page..pushed]);
-        Gc {
-            base: self.base,
-            pushed,
-            page,
-            len: 0,
-        }
+        self.page = self.pushed;
+        self.pushed += cap;
+        self.len = 0;
+        heap[self.page..self.pushed].fill(0);
     }
 
-    // A page that can hold a block of `size` bytes, if the lent heap has so much left.
-    pub fn grow(self, size: u64, heap: &mut [u8]) -> Grown
-        requires { InHeap self heap.old }
-        ensures { growth result heap.new
-            ≡ extended_in (pushed (grow_of page_size size) (pages_of self heap.old)) heap.old }
+    // A page that can hold a block of `size` bytes; whether the lent heap has so much left.
+    pub fn grow(&mut self, size: u64, heap: &mut [u8]) -> bool
+        requires { InHeap self.old heap.old }
+        ensures { growth result self.new heap.new
+            ≡ extended_in (pushed (grow_of page_size size) (pages_of self.old heap.old)) self.old heap.old }
     {
-        let pushed = self.pushed;
         // no sum below passes 2^64
         if (heap.len() as u64) < size {
-            return Grown::Full;
+            return false;
         }
-        let required = GROWTH + size as usize;
-        let cap = (required + (PAGE_SIZE - 1)) / PAGE_SIZE * PAGE_SIZE;
-        if heap.len() - pushed < cap {
-            return Grown::Full;
+        let cap = (GROWTH + size as usize).next_multiple_of(PAGE_SIZE);
+        if heap.len() - self.pushed < cap {
+            return false;
         }
-        Grown::To(self.push_page(cap, heap))
+        self.push_page(cap, heap);
+        true
     }
 
     // A block in a new page.
-    fn alloc_slow(self, m: Metadata, heap: &mut [u8]) -> Alloc
-        requires { InHeap self heap.old }
-        ensures { outcome result heap.new ≡ slow_of self m.flags m.size heap.old }
+    fn alloc_slow(&mut self, m: Metadata, heap: &mut [u8]) -> Option<u64>
+        requires { InHeap self.old heap.old }
+        ensures { outcome result self.new heap.new ≡ slow_of self.old m.flags m.size heap.old }
     {
-        let Grown::To(g) = self.grow(m.size, heap) else {
-            return Alloc::Refused;
-        };
-        g.alloc_fast(m, heap)
+        if !self.grow(m.size, heap) {
+            return None;
+        }
+        self.alloc_fast(m, heap)
     }
 
-    // A block in the last page if that can hold it, or else in a new one.
-    pub fn alloc(self, m: Metadata, heap: &mut [u8]) -> Alloc
-        requires { InHeap self heap.old }
-        ensures { outcome result heap.new ≡ alloc_of self m.flags m.size heap.old }
+    // A block in the last page if that can hold it, or else in a new one: its address. With no room for it all stays as it was.
+    pub fn alloc(&mut self, m: Metadata, heap: &mut [u8]) -> Option<u64>
+        requires { InHeap self.old heap.old }
+        ensures { outcome result self.new heap.new ≡ alloc_of self.old m.flags m.size heap.old }
     {
-        match self.alloc_fast(m, heap) {
-            Alloc::At(address, g) => Alloc::At(address, g),
-            Alloc::Refused => self.alloc_slow(m, heap),
+        if let Some(address) = self.alloc_fast(m, heap) {
+            return Some(address);
         }
+        self.alloc_slow(m, heap)
     }
 }

@@ -10,8 +10,8 @@ use Rattle.memory.proofs.Tests.{both}
 use Rattle.anomaly.proofs.Numbers.{either}
 use Rattle.string.specs.Payload.{reaches}
 use Rattle.gc.specs.declared.Gc.{Gc}
-use Rattle.gc.specs.declared.Alloc.{Alloc}
-use Rattle.gc.specs.declared.Alloc.TheVariants as alloc
+use Rattle.std.specs.Prelude as std
+use Rattle.gc.proofs.Blocks.{some_said, none_said}
 use Rattle.gc.specs.Pages.{Pages, Block, allocated}
 use Rattle.gc.specs.Lent.{page_size, pages_of, numbers_of, fits, outcome, alloc_of}
 use Rattle.gc.proofs.Blocks.{pushed-is}
@@ -26,7 +26,6 @@ use Rattle.vm.specs.declared.State.{State}
 use Rattle.instruction.specs.Turn.{at_pc, at_depth, at_gc, machine_at, Fitting, place_in, goes, halts, stops, Turned, turned, turn}
 use Rattle.vm.proofs.Fits.{none_of, fit_frames, short-frames, view-within, view-fits}
 use Rattle.vm.proofs.Replies.{pages-short}
-use Rattle.vm.proofs.Blocks.{at_said, refused-said}
 
 abbrev went : Machine → Turned
 went m = record { how = goes; machine = m }
@@ -312,7 +311,7 @@ module _ (s : State) (at : Position) (regs : List ℕ) (l : Lent) (fit : Fitting
 
   -- ---- Alloc
 
-  module _ (dst kind n : ℕ) (r : Alloc) (x : List ℕ) (e : outcome r x ≡ alloc_of at.gc kind n heap) where
+  module _ (dst kind n : ℕ) (r : std.Option ℕ) (g : Gc) (x : List ℕ) (e : outcome r g x ≡ alloc_of at.gc kind n heap) where
     abbrev b : Block
     b = allocated page_size kind n (pages_of at.gc heap)
 
@@ -323,17 +322,17 @@ module _ (s : State) (at : Position) (regs : List ℕ) (l : Lent) (fit : Fitting
     unfolding fits used forward set_pc set_regs set_memory set_pages view
     alloc_short = pages-short m.state l b.pages
 
-    pub turn_no_block : r ≡ alloc.Refused → turn (effect.Alloc dst kind n) m ≡ stopped 2 (machine_at s at regs (lend_heap x l))
+    pub turn_no_block : r ≡ std.None → turn (effect.Alloc dst kind n) m ≡ stopped 2 (machine_at s at regs (lend_heap x l))
     unfolding turn apply limited unless failing block_to alloc_of view memory_of
     turn_no_block q =
-        let no = refused-said (fits b.pages (length heap)) b heap x r q e in
-        rw (alloc_short, no.0, no.1) (stays 2)
+        let no = none_said (fits b.pages (length heap)) b at.gc heap x r g q e in
+        rw (alloc_short, no.0, no.2) (stays 2)
 
-    pub turn-block : (a : ℕ) (g : Gc) → r ≡ alloc.At a g
+    pub turn-block : (a : ℕ) → r ≡ std.Some a
         → turn (effect.Alloc dst kind n) m
         ≡ went (machine_at s (at_pc (at.pc + 1) (at_gc g at)) (set regs dst a) (lend_heap x l))
     unfolding turn apply limited turned unless failing block_to alloc_of laid with_regs with_frames with_pages traced forward set_pc set_regs set_memory
         set_pages view memory_of
-    turn-block a g q =
-        let is = at_said (fits b.pages (length heap)) b heap x r a g q e in
+    turn-block a q =
+        let is = some_said (fits b.pages (length heap)) b at.gc heap x r a g q e in
         rw (alloc_short, is.fitting, is.address, is.numbers, is.bytes, over-take, depth_is) refl

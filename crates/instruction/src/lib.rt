@@ -11,7 +11,7 @@ ghost use Rattle.instruction.specs.Turn.{at_pc, machine_at, Fitting, place_in, t
 
 use anomaly::Anomaly;
 use effects::Effect;
-use gc::{Alloc, AllocType, Gc, HEAP_END, Metadata};
+use gc::{AllocType, Gc, HEAP_END, Metadata};
 
 // What changes from instruction to instruction, beside registers, frames and heap.
 #[derive(Clone, Copy)]
@@ -156,13 +156,12 @@ fn alloc(
         → turn_of s at regs.new (lend_heap heap.new l) result
         ≡ turn (Effect.Alloc dst kind size) (machine_at s at regs.old (lend_heap heap.old l)) }
 {
-    let header = Metadata::new(AllocType::from_number(kind), false, size);
-    let Alloc::At(address, gc) = at.gc.alloc(header, heap) else {
+    let kind = AllocType::try_from(kind).unwrap();
+    let mut to = at;
+    let Some(address) = to.gc.alloc(Metadata::new(kind, false, size), heap) else {
         return Turn::Stop(Anomaly::ALLOCATION_FAILED);
     };
     regs[dst] = address;
-    let mut to = at;
-    to.gc = gc;
     to.pc = at.pc + 1;
     Turn::Next(to)
 }

@@ -3,7 +3,7 @@
 
 ghost use Rattle.std.specs.Prelude.{◌≡◌, length};
 
-use gc::{Alloc, AllocType, Gc, Metadata};
+use gc::{AllocType, Gc, Metadata};
 use std::io;
 use str_table::{Probe, StrTable};
 use value::Value;
@@ -105,17 +105,14 @@ fn casts(rt: &impl Print) -> io::Result<()> {
 // The address of a block in a heap of two pages, of which one is pushed and has 32 bytes in use; or 2.
 fn block(size: u64) -> u64 {
     let mut heap = [0u8; 8192];
-    let gc = Gc {
+    let mut gc = Gc {
         base: 65536,
         pushed: 4096,
         page: 0,
         len: 32,
     };
     let m = Metadata::new(AllocType::Record, false, size);
-    match gc.alloc(m, &mut heap) {
-        Alloc::At(address, _) => address,
-        Alloc::Refused => 2,
-    }
+    gc.alloc(m, &mut heap).unwrap_or(2)
 }
 
 fn blocks(rt: &impl Print) -> io::Result<()> {

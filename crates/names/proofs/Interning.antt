@@ -26,8 +26,8 @@ use Rattle.str_table.proofs.Probes.{length-placed}
 use Rattle.str_table.proofs.Moves.{room_holds, length-with_room}
 use Rattle.string.proofs.Small.{small_hash_is}
 use Rattle.gc.specs.declared.Gc.{Gc}
-use Rattle.gc.specs.declared.Alloc.{Alloc}
-use Rattle.gc.specs.declared.Alloc.TheVariants.{At, Refused}
+use Rattle.std.specs.Prelude as std
+use Rattle.gc.proofs.Blocks.{GivenAt, some_said, none_said}
 use Rattle.gc.specs.Pages.{Block}
 use Rattle.gc.specs.Lent.{pages_of, numbers_of, fits, outcome, granted_in}
 use Rattle.vm.specs.declared.State.{State}
@@ -41,7 +41,6 @@ use Rattle.vm.specs.Machine.{perform}
 use Rattle.names.specs.declared.interner.Tested.{Tested}
 use Rattle.vm.specs.Told.{machine_of, holding}
 use Rattle.names.specs.Interned.{written, name_block, Belong, tested_of}
-use Rattle.vm.proofs.Blocks.{GivenAt, at_said, refused-said}
 use Rattle.vm.proofs.Performed.{refuses, refused-is, acted_is}
 use Rattle.vm.proofs.Fits.{short-names, view-within, view-fits}
 use Rattle.names.proofs.SmallOk.{small_says}
@@ -49,13 +48,13 @@ use Rattle.names.proofs.SmallOk.{small_says}
 -- ---- a new name
 
 -- its block was given
-module _ (g : Gc) (name : List ℕ) (hash : ℕ) (heap x : List ℕ) (r : Alloc)
-    (e : outcome r x ≡ granted_in (name_block name hash (pages_of g heap)) heap) (a : ℕ) (to : Gc) (i : r ≡ At a to) where
+module _ (g : Gc) (name : List ℕ) (hash : ℕ) (heap : List ℕ) (r : std.Option ℕ) (to : Gc) (x : List ℕ)
+    (e : outcome r to x ≡ granted_in (name_block name hash (pages_of g heap)) g heap) (a : ℕ) (i : r ≡ std.Some a) where
   abbrev given : Block
   given = name_block name hash (pages_of g heap)
 
   pub name_given : GivenAt (fits given.pages (length heap)) given heap x a to
-  name_given = at_said (fits given.pages (length heap)) given heap x r a to i e
+  name_given = some_said (fits given.pages (length heap)) given g heap x r a to i e
 
   given_in : length given.pages.bytes ≤ length heap
   unfolding fits
@@ -123,22 +122,22 @@ module _ (s : State) (l : Lent) (name : List ℕ) where
       unfolding host_call granted failing
       fresh_18 h = rw (fresh-short, lt-leb room (length slots) h) refl
 
-      module _ (h : room ≤ length slots) (x : List ℕ) (r : Alloc) (e : outcome r x ≡ granted_in made heap) where
-        pub fresh_2 : r ≡ Refused → refuses 2 (machine_of s (lend_heap x l))
+      module _ (h : room ≤ length slots) (r : std.Option ℕ) (to : Gc) (x : List ℕ) (e : outcome r to x ≡ granted_in made s.gc heap) where
+        pub fresh_2 : r ≡ std.None → refuses 2 (machine_of s (lend_heap x l))
             ≡ host_call (intern name) machine (fresh name (memory_of machine))
         unfolding host_call granted failing fits
         fresh_2 i =
-            let no = refused-said (fits made.pages (length heap)) made heap x r i e in
-            rw (fresh-short, le-leb room (length slots) h, no.0, no.1) refl
+            let no = none_said (fits made.pages (length heap)) made s.gc heap x r to i e in
+            rw (fresh-short, le-leb room (length slots) h, no.0, no.2) refl
 
-        module _ (a : ℕ) (to : Gc) (i : r ≡ At a to) where
+        module _ (a : ℕ) (i : r ≡ std.Some a) where
           pub fresh-done : (t : StrTable) (y z : List ℕ) → inserted t y z ≡ insert_of to.base (take to.pushed x) hash a s.strings slots spare
               → record { answer = value a; machine = machine_of (holding s to t) (lend_names x y z l) }
               ≡ host_call (intern name) machine (fresh name (memory_of machine))
           unfolding host_call granted failing fits host_leaves with_names with_pages insert_of numbers_of
           fresh-done t y z p =
-              let gives = name_given s.gc name hash heap x r e a to i in
-              let bytes = name_bytes s.gc name hash heap x r e a to i in
+              let gives = name_given s.gc name hash heap r to x e a i in
+              let bytes = name_bytes s.gc name hash heap r to x e a i in
               let table = ap (λ (o : Inserted). o.table) p in
               let new = ap (λ (o : Inserted). o.slots) p in
               let old = ap (λ (o : Inserted). o.spare) p in

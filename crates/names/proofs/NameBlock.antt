@@ -11,21 +11,22 @@ use Rattle.memory.proofs.Over.{over-write, tail_returned, length_over, length-wr
 use Rattle.memory.proofs.Bytes.{length-bytes_of}
 use Rattle.string.specs.Payload.{payload_of, payload_size}
 use Rattle.gc.specs.declared.Gc.{Gc}
-use Rattle.gc.specs.declared.Alloc.{Alloc}
-use Rattle.gc.specs.declared.Alloc.TheVariants.{At, Refused}
+use Rattle.std.specs.Prelude.{Option, None, Some}
+use Rattle.gc.proofs.Blocks.{GivenAt, some_said, none_said}
 use Rattle.gc.specs.Pages.{Block, allocated}
 use Rattle.gc.specs.Lent.{page_size, pages_of, numbers_of, fits, outcome, granted_in, alloc_of}
 use Rattle.gc.specs.Lent as Heap
 use Rattle.vm.specs.Core.{set_bytes}
 use Rattle.names.specs.Interned.{written, name_block}
-use Rattle.vm.proofs.Blocks.{allocated-placed, GivenAt, at_said, refused-said}
+use Rattle.vm.proofs.Blocks.{allocated-placed}
 use Rattle.vm.proofs.Kept.{allocated-base}
 
 payload_length : (name : List ℕ) (hash : ℕ) → length (payload_of name hash) ≡ payload_size (length name)
 unfolding payload_of
 payload_length name hash = rw (length-append, length-bytes_of, length-append, length-bytes_of) (omega arith)
 
-module _ (g : Gc) (name : List ℕ) (hash : ℕ) (heap x : List ℕ) (r : Alloc) (e : outcome r x ≡ alloc_of g 3 (payload_size (length name)) heap) where
+module _ (g : Gc) (name : List ℕ) (hash : ℕ) (heap : List ℕ) (r : Option ℕ) (to : Gc) (x : List ℕ)
+    (e : outcome r to x ≡ alloc_of g 3 (payload_size (length name)) heap) where
   abbrev bare : Block
   bare = allocated page_size 3 (payload_size (length name)) (pages_of g heap)
 
@@ -33,14 +34,14 @@ module _ (g : Gc) (name : List ℕ) (hash : ℕ) (heap x : List ℕ) (r : Alloc)
   unfolding fits written set_bytes
   made_fits = rw length-write refl
 
-  pub store_refused : r ≡ Refused → outcome Refused x ≡ granted_in (name_block name hash (pages_of g heap)) heap
+  pub store_refused : r ≡ None → outcome None to x ≡ granted_in (name_block name hash (pages_of g heap)) g heap
   unfolding alloc_of Heap.granted
-  store_refused i = let q = refused-said (fits bare.pages (length heap)) bare heap x r i e in rw (made_fits, q.0, q.1) refl
+  store_refused i = let q = none_said (fits bare.pages (length heap)) bare g heap x r to i e in rw (made_fits, q.0, q.1, q.2) refl
 
-  module _ (a : ℕ) (to : Gc) (i : r ≡ At a to) where
+  module _ (a : ℕ) (i : r ≡ Some a) where
     said : GivenAt (fits bare.pages (length heap)) bare heap x a to
     unfolding alloc_of
-    said = at_said _ bare heap x r a to i e
+    said = some_said _ bare g heap x r a to i e
 
     base-is : bare.pages.base ≡ g.base
     unfolding pages_of
@@ -73,8 +74,8 @@ module _ (g : Gc) (name : List ℕ) (hash : ℕ) (heap x : List ℕ) (r : Alloc)
         rw (length-take-le (length x - (a - g.base)) (drop (a - g.base) x) (omega arith)) (omega arith)
 
     pub store_done : (y : List ℕ) → y ≡ over (payload_of name hash) (take (length x - (a - g.base)) (drop (a - g.base) x))
-        → outcome (At a to) (take (a - g.base) x ++ (y ++ drop (length x - (a - g.base)) (drop (a - g.base) x)))
-        ≡ granted_in (name_block name hash (pages_of g heap)) heap
+        → outcome (Some a) to (take (a - g.base) x ++ (y ++ drop (length x - (a - g.base)) (drop (a - g.base) x)))
+        ≡ granted_in (name_block name hash (pages_of g heap)) g heap
     unfolding Heap.granted written set_bytes numbers_of
     store_done y q =
         let w = store_within in

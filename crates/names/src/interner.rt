@@ -10,7 +10,7 @@ ghost use Rattle.vm.specs.Told.{machine_of, holding, told};
 ghost use Rattle.names.specs.Interned.{name_block, Belong, tested_of, interned_in};
 
 use anomaly::Refusal;
-use gc::{Alloc, AllocType, Gc, Metadata};
+use gc::{AllocType, Gc, Metadata};
 use str_table::{Probe, StrTable};
 use string::{fxhash, payload};
 use vm::{Reply, lent};
@@ -31,19 +31,17 @@ pub struct Interned {
 }
 
 // A block with the header and the bytes of `s`, whose hash is `hash`.
-fn store(gc: Gc, s: &[u8], hash: u32, heap: &mut [u8]) -> Alloc
-    requires { InHeap gc heap.old }
-    ensures { outcome result heap.new
-        ≡ granted_in (name_block s.now hash (pages_of gc heap.old)) heap.old }
+fn store(gc: &mut Gc, s: &[u8], hash: u32, heap: &mut [u8]) -> Option<u64>
+    requires { InHeap gc.old heap.old }
+    ensures { outcome result gc.new heap.new
+        ≡ granted_in (name_block s.now hash (pages_of gc.old heap.old)) gc.old heap.old }
 {
+    let base = gc.base;
     let size = payload::payload_size(s.len());
-    let header = Metadata::new(AllocType::String, false, size);
-    let Alloc::At(address, to) = gc.alloc(header, heap) else {
-        return Alloc::Refused;
-    };
-    let at = (address - gc.base) as usize;
+    let address = gc.alloc(Metadata::new(AllocType::String, false, size), heap)?;
+    let at = (address - base) as usize;
     payload::write_payload(&mut heap[at..], s, hash);
-    Alloc::At(address, to)
+    Some(address)
 }
 
 // At most 8 bytes, and zero above them: refusal 17.
@@ -103,7 +101,8 @@ fn fresh(
     if slots.len() < strings.room() {
         return refused(gc, strings, Refusal::TableFull);
     }
-    let Alloc::At(address, to) = store(gc, s, hash, heap) else {
+    let mut to = gc;
+    let Some(address) = store(&mut to, s, hash, heap) else {
         return refused(gc, strings, Refusal::Memory);
     };
     let pushed = to.pushed;

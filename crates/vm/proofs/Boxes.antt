@@ -1,5 +1,5 @@
 -- An Option written into a block. Assumes nothing.
-use mathlib.Core.Path.{◌≡◌, refl, sym, ap, ap₂, ◌∙◌}
+use mathlib.Core.Path.{◌≡◌, refl, sym, ap, ◌∙◌}
 use Prim.Native.Nat.{ℕ, ◌+◌, ◌-◌, ◌≤◌}
 use mathlib.Core.Bool.{true}
 use mathlib.Core.List.{List, ◌++◌}
@@ -12,7 +12,8 @@ use Rattle.memory.specs.Lists.{over, write}
 use Rattle.memory.proofs.Over.{length_over, length-write, over-write, tail_returned}
 use Rattle.memory.proofs.Bytes.{length-bytes_of}
 use Rattle.gc.specs.declared.Gc.{Gc}
-use Rattle.gc.specs.declared.Alloc.{Alloc}
+use Rattle.std.specs.Prelude.{Option, None, Some}
+use Rattle.gc.proofs.Blocks.{GivenAt, some_said, none_said}
 use Rattle.gc.specs.Pages.{Block, grow_of, gap_of, holds, block, pushed, fitted, allocated}
 use Rattle.gc.specs.Lent.{page_size, pages_of, numbers_of, outcome, fits, granted, granted_in, alloc_of, InHeap}
 use Rattle.vm.specs.Core.{set_pages, set_bytes}
@@ -21,7 +22,7 @@ use Rattle.vm.specs.Machine.{first_page, first_memory}
 use Rattle.vm.specs.Told.{block_of, memory_in}
 use Rattle.vm.proofs.Starting.{first_length}
 use Rattle.vm.proofs.Kept.{allocated-base}
-use Rattle.vm.proofs.Blocks.{Placed, allocated-placed, GivenAt, at_said, refused-said}
+use Rattle.vm.proofs.Blocks.{Placed, allocated-placed}
 
 -- ---- a box: two words in the payload of a block that was granted
 
@@ -59,15 +60,15 @@ module _ (g : Gc) (heap : List ℕ) (s : InHeap g heap) (tag v : ℕ) where
       let room : at + 16 ≤ length b.pages.bytes = omega (arith, base, in_payload.within) in
       rw base (sym (over-write at (box_of tag v) b.pages.bytes heap (rw box_length room)))
 
-  module _ (r : Alloc) (x : List ℕ) (e : outcome r x ≡ alloc_of g 2 16 heap) where
-    pub box_refused : r ≡ Alloc.Refused → outcome Alloc.Refused x ≡ granted_in goal heap
+  module _ (r : Option ℕ) (h : Gc) (x : List ℕ) (e : outcome r h x ≡ alloc_of g 2 16 heap) where
+    pub box_refused : r ≡ None → outcome None h x ≡ granted_in goal g heap
     unfolding alloc_of granted
-    box_refused q = let z = refused-said (fits b.pages (length heap)) b heap x r q e in rw (same_fit, z.0, z.1) refl
+    box_refused q = let z = none_said (fits b.pages (length heap)) b g heap x r h q e in rw (same_fit, z.0, z.1, z.2) refl
 
-    module _ (a : ℕ) (h : Gc) (q : r ≡ Alloc.At a h) where
+    module _ (a : ℕ) (q : r ≡ Some a) where
       said : GivenAt (fits b.pages (length heap)) b heap x a h
       unfolding alloc_of
-      said = at_said _ b heap x r a h q e
+      said = some_said _ b g heap x r a h q e
 
       pub box_low : g.base ≤ a
       box_low = omega (arith, said.address, base-is, in_payload.above)
@@ -96,20 +97,19 @@ module _ (g : Gc) (heap : List ℕ) (s : InHeap g heap) (tag v : ℕ) where
           rw (length-take-le (length x - (a - g.base)) (drop (a - g.base) x) (omega arith)) (omega arith)
 
       pub box_written : (y : List ℕ) → y ≡ over (box_of tag v) to
-          → outcome (Alloc.At a h) (take (a - g.base) x ++ (y ++ drop (length x - (a - g.base)) (drop (a - g.base) x))) ≡ granted_in goal heap
+          → outcome (Some a) h (take (a - g.base) x ++ (y ++ drop (length x - (a - g.base)) (drop (a - g.base) x))) ≡ granted_in goal g heap
       unfolding granted boxed filled
       box_written y q =
           let at : a - g.base ≡ b.address - g.base = ap (λ (k : ℕ). k - g.base) said.address in
           let back = tail_returned (a - g.base) (length x) (box_of tag v) x refl box_starts in
           let home : take (a - g.base) x ++ (y ++ drop (length x - (a - g.base)) (drop (a - g.base) x))
           ≡ over goal.pages.bytes heap = rw (q, back, said.bytes, at) laid_box in
-          let answer : Alloc.At a h ≡ Alloc.At goal.address (numbers_of goal.pages) = ap₂ (λ (k : ℕ) (n : Gc). Alloc.At k n)
-          said.address (said.numbers ∙ same_numbers) in
-          rw (same_fit ∙ said.fitting) (ap₂ outcome answer home)
+          let numbers : h ≡ numbers_of goal.pages = said.numbers ∙ same_numbers in
+          rw (same_fit ∙ said.fitting, home, said.address, numbers) refl
 
 -- ---- the first box, in a heap without pages: it pushes page 0
 
-abbrev bare : ℕ → Gc
+abbrev pub bare : ℕ → Gc
 bare base = record { base = base; pushed = 0; page = 0; len = 0 }
 
 first_box : (base : ℕ) (heap : List ℕ)
@@ -117,11 +117,11 @@ first_box : (base : ℕ) (heap : List ℕ)
 unfolding first_memory first_page boxed filled set_pages set_bytes pages_of allocated fitted holds block pushed gap_of grow_of
 first_box base heap = refl
 
-pub first_laid : (base : ℕ) (heap : List ℕ) → page_size ≤ length heap → (r : Alloc) (x : List ℕ)
-    → outcome r x ≡ granted_in (block_of (boxed 0 0 (memory_in (bare base) heap))) heap
-    → outcome r x ≡ outcome (Alloc.At (base + 16) (numbers_of (first_memory base).pages)) (over (first_memory base).pages.bytes heap)
+pub first_laid : (base : ℕ) (heap : List ℕ) → page_size ≤ length heap → (r : Option ℕ) (h : Gc) (x : List ℕ)
+    → outcome r h x ≡ granted_in (block_of (boxed 0 0 (memory_in (bare base) heap))) (bare base) heap
+    → outcome r h x ≡ outcome (Some (base + 16)) (numbers_of (first_memory base).pages) (over (first_memory base).pages.bytes heap)
 unfolding granted fits
-first_laid base heap room r x e =
+first_laid base heap room r h x e =
     let n = first_length base in
     let fit : leb (length (first_memory base).pages.bytes) (length heap)
     ≡ true = le-leb (length (first_memory base).pages.bytes) (length heap) (omega arith) in

@@ -7,14 +7,15 @@ use mathlib.Core.Option.{none}
 use lib.ListN.{length}
 use lib.Dec.{ltb}
 use Rattle.gc.specs.Pages.{Pages, Block, grow_of, holds, allocated}
-use Rattle.gc.specs.Lent.{page_size, pages_of, refuses}
+use Rattle.gc.specs.Lent.{page_size, pages_of}
 use Rattle.gc.specs.Lent as Heap
+use Rattle.std.specs.Prelude.{is_none}
 use Rattle.gc.proofs.Blocks.{refused_exactly}
 use Rattle.gc.proofs.Soundness.{sound}
 use Rattle.program.specs.Image.{test, failing}
 use Rattle.program.proofs.Tests.{failing-cons}
 use Rattle.vm.specs.declared.State.{State}
-use Rattle.vm.specs.Machine.{Lent, value, refused, host, allocate, heap_ok, pages_belong, Called, tests_by, tests, perform}
+use Rattle.vm.specs.Machine.{Lent, keep_gc, value, refused, host, allocate, heap_ok, pages_belong, Called, tests_by, tests, perform}
 use Rattle.vm.specs.Told.{machine_of, said_of, allocated_in}
 use Rattle.vm.proofs.Buffers.{heap-low}
 use Rattle.vm.proofs.Replies.{allocate-told}
@@ -28,8 +29,8 @@ module _ (s : State) (l : Lent) (kind align n : ℕ) where
   lacking = not (holds n pages) && ltb (length l.heap - s.gc.pushed) (grow_of page_size n)
 
   answered : (t : Bool) (b : Block)
-      → said_of (allocated_in s (Heap.granted t b l.heap).answer).reply
-      ≡ cond (refuses (Heap.granted t b l.heap).answer) (refused 2) (value b.address)
+      → said_of (allocated_in (keep_gc (Heap.granted t b s.gc l.heap).numbers s) (Heap.granted t b s.gc l.heap).answer).reply
+      ≡ cond (is_none (Heap.granted t b s.gc l.heap).answer) (refused 2) (value b.address)
   unfolding Heap.granted said_of
   answered true b = refl
   answered false b = refl

@@ -10,36 +10,38 @@ use Rattle.memory.specs.Lists.{over}
 use Rattle.anomaly.specs.Table.{is_refusal}
 use Rattle.memory.proofs.Tests.{both}
 use Rattle.gc.specs.declared.Gc.{Gc}
-use Rattle.gc.specs.declared.Alloc.{Alloc}
-use Rattle.gc.specs.Lent.{page_size, Outcome, outcome, numbers_of}
+use Rattle.std.specs.Prelude as std
+use Rattle.gc.specs.Lent.{page_size, Outcome, outcome, numbers_of, InHeap}
 use Rattle.op.specs.declared.Checked.{Checked}
 use Rattle.vm.specs.declared.State.{State}
 use Rattle.program.specs.Image.{Image, test, image_ok, image_tests, failing, verdict}
-use Rattle.vm.specs.Machine.{Lent, Machine, lend_begin, keep_depth, keep_gc, done, refused, traced, with_pages, with_frames, unset, frames_ok, heap_ok, first_memory}
+use Rattle.vm.specs.Machine.{Lent, unlent, Machine, lend_begin, keep_depth, keep_gc, done, refused, traced, with_pages, with_frames, unset, frames_ok, heap_ok, first_memory}
 use Rattle.vm.specs.Machine.{blank, begin, starts, buffers_ok, start}
 use Rattle.vm.specs.Told.{machine_of, started_on}
 use Rattle.program.proofs.Tests.{failing-cons}
 use Rattle.vm.proofs.Refusals.{failing_numbered, image_alone}
 use Rattle.vm.proofs.Buffers.{frames_room, heap_room, heap-low}
 use Rattle.vm.proofs.Replies.{over_first}
+use Rattle.vm.proofs.Boxes.{bare}
 use Rattle.vm.proofs.Ends.{refusal_numbered}
 
 -- ---- the first box granted, and frame 0
 
-module _ (base : ℕ) (l : Lent) (r : Alloc) (x : List ℕ)
-    (e : outcome r x ≡ outcome (Alloc.At (base + 16) (numbers_of (first_memory base).pages)) (over (first_memory base).pages.bytes l.heap)) where
-  pub never-refused : r ≡ Alloc.Refused → ⊥
-  never-refused q =
-      let a = ap (λ (o : Outcome). o.answer) e in
-      let z : ◌≡◌ {A = ℕ} 0 1 = cc in
-      absurd (omega arith)
+-- a blank state has no page
+pub no_page : (base : ℕ) (s : State) → ((l : Lent) → machine_of s l ≡ blank base l) → s.gc ≡ bare base
+unfolding blank
+no_page base s h = ap (λ (m : Machine). m.state.gc) (h unlent)
 
-  pub begun_with : (a : ℕ) (g : Gc) → r ≡ Alloc.At a g → (s : State) → ((l : Lent) → machine_of s l ≡ blank base l)
+pub bare-in_heap : (base : ℕ) (heap : List ℕ) → base + length heap ≤ 2 ^ 48 → InHeap (bare base) heap
+bare-in_heap base heap low = record { low = low; in_heap = omega arith; in_pages = omega arith }
+
+module _ (base : ℕ) (l : Lent) (r : std.Option ℕ) (g : Gc) (x : List ℕ)
+    (e : outcome r g x ≡ outcome (std.Some (base + 16)) (numbers_of (first_memory base).pages) (over (first_memory base).pages.bytes l.heap)) where
+  pub begun_with : (s : State) → ((l : Lent) → machine_of s l ≡ blank base l)
       → machine_of (keep_gc g (keep_depth 1 s)) (lend_begin (set l.frames 0 unset) x l) ≡ begin base l
   unfolding begin with_frames with_pages blank traced
-  begun_with a g q s h =
-      let answer = ap (λ (o : Outcome). o.answer) e in
-      let n : g ≡ numbers_of (first_memory base).pages = cc in
+  begun_with s h =
+      let n = ap (λ (o : Outcome). o.numbers) e in
       let b : s ≡ (blank base l).state = ap (λ (m : Machine). m.state) (h l) in
       rw (b, n, ap (λ (o : Outcome). o.heap) e, over_first) refl
 

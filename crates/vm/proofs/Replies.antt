@@ -19,7 +19,7 @@ use Rattle.vm.specs.declared.State.{State}
 use Rattle.program.specs.Image.{test, failing}
 use Rattle.vm.specs.Core.{used, short, set_memory, set_pages, set_bytes}
 use Rattle.vm.specs.Names.{Given, as_given, allocates, filled, boxed, optional}
-use Rattle.vm.specs.Machine.{Lent, Machine, sizes, lend_frames, lend_heap, keep_regs, keep_pc, keep_depth, memory_of, view, Called, value, done}
+use Rattle.vm.specs.Machine.{Lent, Machine, sizes, lend_frames, lend_heap, keep_regs, keep_pc, keep_depth, keep_gc, memory_of, view, Called, value, done}
 use Rattle.vm.specs.Machine.{refused, setting, reset, put_pc, put_reg, host, Host, allocate, option, unset, traced, with_pages, with_frames}
 use Rattle.vm.specs.Machine.{with_regs, with_setting, hosted, host_leaves, granted, host_call, act, frames_ok, heap_ok, pages_belong, tests_by, tests}
 use Rattle.vm.specs.Machine.{tried, perform}
@@ -63,6 +63,12 @@ module _ (s : State) (l : Lent) where
 
 -- ---- allocating
 
+pub no_kind : (kind : ℕ) (b : Bool) → 4 ≤ kind → (ltb kind 4 && b) ≡ false
+no_kind kind b h = rw (le-ltb kind 4 h) refl
+
+pub kind_aligned : (kind : ℕ) (b : Bool) → kind < 4 → (ltb kind 4 && b) ≡ b
+kind_aligned kind b h = rw (lt-ltb kind 4 h) refl
+
 module _ (s : State) (l : Lent) (kind align n : ℕ) where
   abbrev call : Called
   call = perform (host (allocate kind align n)) (machine_of s l)
@@ -102,15 +108,16 @@ module _ (s : State) (l : Lent) (p : Pages) where
     given = record { value = a; memory = set_pages p (memory_of machine) }
 
     told_case : (t : Bool)
-        → told (allocated_in s (Heap.granted t (record { address = a; pages = p }) l.heap).answer)
-        (lend_heap (Heap.granted t (record { address = a; pages = p }) l.heap).heap l)
+        → told (allocated_in (keep_gc (Heap.granted t (record { address = a; pages = p }) s.gc l.heap).numbers s)
+        (Heap.granted t (record { address = a; pages = p }) s.gc l.heap).answer)
+        (lend_heap (Heap.granted t (record { address = a; pages = p }) s.gc l.heap).heap l)
         ≡ granted (failing (test t 2 ∷ [])) k machine given
     unfolding Heap.granted granted failing with_pages said_of
     told_case true = rw leaves refl
     told_case false = refl
 
-    pub pages-told : (x : Outcome) → x ≡ Heap.granted_in (record { address = a; pages = p }) l.heap
-        → told (allocated_in s x.answer) (lend_heap x.heap l) ≡ host_call k machine given
+    pub pages-told : (x : Outcome) → x ≡ Heap.granted_in (record { address = a; pages = p }) s.gc l.heap
+        → told (allocated_in (keep_gc x.numbers s) x.answer) (lend_heap x.heap l) ≡ host_call k machine given
     unfolding host_call Heap.fits
     pages-told x e = rw (e, pages-short) (told_case (leb (length p.bytes) (length l.heap)))
 
@@ -118,7 +125,7 @@ module _ (s : State) (l : Lent) (kind align n : ℕ) where
   pub allocate-told : heap_ok s.gc.base (length l.heap) ≡ true → (ltb kind 4 && is_alignment align) ≡ true
       → Heap.sound_of s.gc (length l.heap) ≡ true
       → (x : Outcome) → x ≡ Heap.alloc_of s.gc kind n l.heap
-      → told (allocated_in s x.answer) (lend_heap x.heap l) ≡ perform (host (allocate kind align n)) (machine_of s l)
+      → told (allocated_in (keep_gc x.numbers s) x.answer) (lend_heap x.heap l) ≡ perform (host (allocate kind align n)) (machine_of s l)
   unfolding Heap.alloc_of hosted allocates as_given host_leaves memory_of set_pages
   allocate-told h o b x e =
       pages-told s l (allocated page_size kind n (pages_of s.gc l.heap)).pages (allocate kind align n) refl
@@ -147,8 +154,8 @@ module _ (s : State) (l : Lent) (heap-fine : heap_ok s.gc.base (length l.heap) �
   abbrev held : Machine
   held = machine_of s l
 
-  pub option_some : (v : ℕ) (x : Outcome) → x ≡ Heap.granted_in (block_of (boxed 1 v (memory_in s.gc l.heap))) l.heap
-      → told (allocated_in s x.answer) (lend_heap x.heap l) ≡ perform (host (option (some v))) held
+  pub option_some : (v : ℕ) (x : Outcome) → x ≡ Heap.granted_in (block_of (boxed 1 v (memory_in s.gc l.heap))) s.gc l.heap
+      → told (allocated_in (keep_gc x.numbers s) x.answer) (lend_heap x.heap l) ≡ perform (host (option (some v))) held
   unfolding hosted optional boxed filled host_leaves memory_of set_pages set_bytes
   option_some v x e =
       pages-told s l (block_of (boxed 1 v (memory_in s.gc l.heap))).pages (option (some v)) refl

@@ -1,11 +1,11 @@
 -- What the code answers, in the numbers and values of the definition. Definitions only.
 use Rattle.std.specs.Prelude.{ℕ, List, []}
+use Rattle.std.specs.Prelude as std
 use Rattle.std.proofs.Math.Option.{Option, none, some}
 use Rattle.anomaly.specs.declared.Refusal.{Refusal}
 use Rattle.anomaly.specs.declared.End.{End}
 use Rattle.anomaly.specs.Table.{number_of_anomaly, pc_of_anomaly, steps_of_anomaly, number_of_refusal}
 use Rattle.str_table.specs.declared.StrTable.{StrTable}
-use Rattle.gc.specs.declared.Alloc.{Alloc}
 use Rattle.gc.specs.declared.Gc.{Gc}
 use Rattle.gc.specs.Pages.{Block}
 use Rattle.gc.specs.Lent.{pages_of}
@@ -36,10 +36,10 @@ refused_by why s = record { reply = Reply.Refused why; state = s }
 abbrev pub holding : State → Gc → StrTable → State
 holding s g t = keep_gc g (keep_strings t s)
 
--- a block's address, and the state with the heap's numbers; or 2
-abbrev pub allocated_in : State → Alloc → Called
-allocated_in s (Alloc.At address g) = record { reply = Reply.Value address; state = keep_gc g s }
-allocated_in s Alloc.Refused = refused_by Refusal.Memory s
+-- a block's address, or 2
+abbrev pub allocated_in : State → std.Option ℕ → Called
+allocated_in s (std.Some address) = record { reply = Reply.Value address; state = s }
+allocated_in s std.None = refused_by Refusal.Memory s
 
 -- a reply with the state, and the buffers after the call
 abbrev pub told : Called → Lent → Machine.Called

@@ -12,7 +12,7 @@ pub mod lent;
 pub mod start;
 
 use anomaly::Refusal;
-use gc::{Alloc, AllocType, Gc, Metadata};
+use gc::{AllocType, Gc, Metadata};
 use op::REGISTER_COUNT;
 use str_table::StrTable;
 
@@ -52,19 +52,16 @@ pub struct Called {
 const UNSET: u64 = u64::MAX;
 
 // An Option of two words, a tag and a value.
-fn boxed(gc: Gc, tag: u64, value: u64, heap: &mut [u8]) -> Alloc
-    requires { InHeap gc heap.old }
-    ensures { outcome result heap.new
-        ≡ granted_in (block_of (boxed tag value (memory_in gc heap.old))) heap.old }
+fn boxed(gc: &mut Gc, tag: u64, value: u64, heap: &mut [u8]) -> Option<u64>
+    requires { InHeap gc.old heap.old }
+    ensures { outcome result gc.new heap.new
+        ≡ granted_in (block_of (boxed tag value (memory_in gc.old heap.old))) gc.old heap.old }
 {
     let base = gc.base;
-    let block = gc.alloc(Metadata::new(AllocType::Option, false, 16), heap);
-    let Alloc::At(address, _) = block else {
-        return Alloc::Refused;
-    };
+    let address = gc.alloc(Metadata::new(AllocType::Option, false, 16), heap)?;
     let at = (address - base) as usize;
     write_box(&mut heap[at..], tag, value);
-    block
+    Some(address)
 }
 
 // The two words, into the part of the heap that starts at the payload.
@@ -87,19 +84,15 @@ impl State {
     }
 
     // The reply to an allocation.
-    fn allocated(self, block: Alloc) -> Called
+    fn allocated(self, block: Option<u64>) -> Called
         ensures { result ≡ allocated_in self block }
     {
         match block {
-            Alloc::At(address, gc) => {
-                let mut state = self;
-                state.gc = gc;
-                Called {
-                    reply: Reply::Value(address),
-                    state,
-                }
-            }
-            Alloc::Refused => self.refused(Refusal::Memory),
+            Some(address) => Called {
+                reply: Reply::Value(address),
+                state: self,
+            },
+            None => self.refused(Refusal::Memory),
         }
     }
 
@@ -154,14 +147,18 @@ impl State {
         if !lent::heap_ok(gc.base, heap.len()) {
             return self.refused(Refusal::Size);
         }
-        if !((kind < 4) & op::is_alignment(align)) {
+        let Ok(kind) = AllocType::try_from(kind) else {
+            return self.refused(Refusal::Operand);
+        };
+        if !op::is_alignment(align) {
             return self.refused(Refusal::Operand);
         }
         if !gc.sound(heap.len()) {
             return self.refused(Refusal::State);
         }
-        let header = Metadata::new(AllocType::from_number(kind), false, size);
-        self.allocated(gc.alloc(header, heap))
+        let mut state = self;
+        let block = state.gc.alloc(Metadata::new(kind, false, size), heap);
+        state.allocated(block)
     }
 
     pub fn new_option(self, value: Opt, heap: &mut [u8]) -> Called
@@ -181,7 +178,11 @@ impl State {
                 reply: Reply::Value(gc.base + 16),
                 state: self,
             },
-            Opt::Some(v) => self.allocated(boxed(gc, 1, v, heap)),
+            Opt::Some(v) => {
+                let mut state = self;
+                let block = boxed(&mut state.gc, 1, v, heap);
+                state.allocated(block)
+            }
         }
     }
 }

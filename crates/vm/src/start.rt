@@ -7,7 +7,7 @@ ghost use Rattle.vm.specs.Told.{lent_of, machine_of, told, started_on};
 
 use crate::{Called, Reply, State, UNSET, boxed, lent};
 use anomaly::Refusal;
-use gc::{Alloc, Gc};
+use gc::Gc;
 use op::Checked;
 use program::loader;
 use str_table::StrTable;
@@ -40,17 +40,8 @@ fn begin(base: u64, frames: &mut [u64], heap: &mut [u8]) -> State
         → machine_of result (lend_begin frames.new heap.new l) ≡ begin base (lend_begin frames.old heap.old l) }
 {
     let mut state = blank(base);
-    let bare = Gc {
-        base,
-        pushed: 0,
-        page: 0,
-        len: 0,
-    };
-    let Alloc::At(_, gc) = boxed(bare, 0, 0, heap) else {
-        return state;
-    };
+    boxed(&mut state.gc, 0, 0, heap);
     frames[0] = UNSET;
-    state.gc = gc;
     state.depth = 1;
     state
 }

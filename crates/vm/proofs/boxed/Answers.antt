@@ -3,34 +3,34 @@ use mathlib.Core.Path.{◌≡◌}
 use Rattle.gc.specs.Lent.{outcome, alloc_of}
 use Rattle.vm.proofs.Boxes.{box_refused, box_low, box_starts, box_room, box_written}
 use Rattle.vm.proofs.boxed.Goals as goal
-use Rattle.vm.proofs.boxed.Goals.{After-alloc-block}
+use Rattle.vm.proofs.boxed.Goals.{After-alloc}
 
 -- an Option of 16 bytes was asked for
-block_of : (c : After-alloc-block)
-    → outcome c.alloc-block.result c.alloc-block.new.heap ≡ alloc_of c.args.gc 2 16 c.args.heap.now
-block_of c =
-    rw (c.new.ensures.0, c.new.ensures.1) at c.alloc-block.ensures
+block_of : (c : After-alloc) → outcome c.alloc.result c.alloc.new.self c.alloc.new.heap ≡ alloc_of c.args.gc.now 2 16 c.args.heap.now
+block_of c = rw (c.new.ensures.0, c.new.ensures.1) at c.alloc.ensures
 
-pub returns-in_default : goal.returns-in_default
-returns-in_default c = box_refused _ _ c.requires _ _ _ _ (block_of (goal.at.returns-in_default c).After-alloc-block) c.in_default.is
+pub returns-in_err-address : goal.returns-in_err-address
+returns-in_err-address c =
+    rw c.from_residual.ensures
+    (box_refused _ _ c.requires _ _ _ _ _ (block_of (goal.at.returns-in_err-address c).After-alloc) c.in_err-address.was)
 
 pub overflow_sub-at : goal.overflow_sub-at
 overflow_sub-at c =
-    box_low _ _ c.requires c.args.tag c.args.value _ _ (block_of (goal.at.overflow_sub-at c).After-alloc-block) _ _ c.in-At.is
+    box_low _ _ c.requires c.args.tag c.args.value _ _ _ (block_of (goal.at.overflow_sub-at c).After-alloc) _ c.in_ok-address.was
 
 pub slice_bounds-write_box-count : goal.slice_bounds-write_box-count
 slice_bounds-write_box-count c =
-    box_starts _ _ c.requires c.args.tag c.args.value _ _ (block_of (goal.at.slice_bounds-write_box-count c).After-alloc-block) _ _ c.in-At.is
+    box_starts _ _ c.requires c.args.tag c.args.value _ _ _ (block_of (goal.at.slice_bounds-write_box-count c).After-alloc) _ c.in_ok-address.was
 
 pub slice_bounds-write_box-start : goal.slice_bounds-write_box-start
 slice_bounds-write_box-start c =
-    box_starts _ _ c.requires c.args.tag c.args.value _ _ (block_of (goal.at.slice_bounds-write_box-start c).After-alloc-block) _ _ c.in-At.is
+    box_starts _ _ c.requires c.args.tag c.args.value _ _ _ (block_of (goal.at.slice_bounds-write_box-start c).After-alloc) _ c.in_ok-address.was
 
 pub write_box-requires : goal.write_box-requires
 write_box-requires c =
-    box_room _ _ c.requires c.args.tag c.args.value _ _ (block_of (goal.at.write_box-requires c).After-alloc-block) _ _ c.in-At.is
+    box_room _ _ c.requires c.args.tag c.args.value _ _ _ (block_of (goal.at.write_box-requires c).After-alloc) _ c.in_ok-address.was
 
 pub returns : goal.returns
 returns c =
-    box_written _ _ c.requires c.args.tag c.args.value _ _ (block_of (goal.at.returns c).After-alloc-block) _ _ c.in-At.is _
+    box_written _ _ c.requires c.args.tag c.args.value _ _ _ (block_of (goal.at.returns c).After-alloc) _ c.in_ok-address.was _
     c.write_box.ensures

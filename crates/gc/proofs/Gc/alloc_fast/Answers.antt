@@ -1,14 +1,16 @@
 -- `gc::Gc::alloc_fast` meets its contract. Assumes nothing.
-use native.Mathlib.Omega.{arith}
-use mathlib.Core.Path.{refl}
-use Rattle.gc.proofs.Blocks.{fast_refused, fast_granted}
+use Rattle.gc.proofs.Blocks.{too_large, fast_refused, fast_granted}
 use Rattle.gc.proofs.Gc.alloc_fast.Goals as goal
 
 pub returns-then-heap-m : goal.returns-then-heap-m
-returns-then-heap-m c = fast_refused _ _ c.requires _ _ (omega (arith, c.requires.in_heap))
+returns-then-heap-m c = too_large _ _ c.requires _ _ c.if-heap-m.true
 
-pub returns-then-pushed-page : goal.returns-then-pushed-page
-returns-then-pushed-page c = fast_refused _ _ c.requires _ _ c.if-pushed-page.true
+pub returns-then-self-len : goal.returns-then-self-len
+returns-then-self-len c =
+    let h = c.next_multiple_of-header.ensures in
+    fast_refused _ _ c.requires _ _ _ h.lower_bound h.upper_bound h.multiple c.if-self-len.true
 
 pub returns : goal.returns
-returns c = fast_granted _ _ c.requires _ _ _ _ c.if-pushed-page.false refl c.write.ensures
+returns c =
+    let h = c.next_multiple_of-header.ensures in
+    fast_granted _ _ c.requires _ _ _ h.lower_bound h.upper_bound h.multiple _ c.if-self-len.false c.write.ensures

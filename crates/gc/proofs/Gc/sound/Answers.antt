@@ -2,8 +2,8 @@
 use Rattle.gc.proofs.Soundness.{no_page, by_end}
 use Rattle.gc.proofs.Gc.sound.Goals as goal
 
-pub returns-then-pushed-page : goal.returns-then-pushed-page
-returns-then-pushed-page c = no_page _ _ c.if-pushed-page.true
+pub returns-then-self : goal.returns-then-self
+returns-then-self c = no_page _ _ c.if-self.true
 
 pub returns : goal.returns
-returns c = by_end _ _ c.if-pushed-page.false
+returns c = by_end _ _ c.if-self.false

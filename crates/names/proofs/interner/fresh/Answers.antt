@@ -18,16 +18,16 @@ unfolding said_of
 returns-in_default c =
     λ rest l. rw c.refused-in_default.ensures
     (fresh_2 (holding rest c.args.gc c.args.strings) (lend_names _ _ _ l) _ c.requires.0 _ c.requires.1
-    (rw c.room.ensures at c.if-slots-room.false) _ _ c.store.ensures c.in_default.is)
+    (rw c.room.ensures at c.if-slots-room.false) _ _ _ c.store.ensures c.in_default.is)
 
 pub slice_bounds-insert-end : goal.slice_bounds-insert-end
-slice_bounds-insert-end c = pushed_in _ c.args.s.now _ _ _ _ c.store.ensures _ _ c.in-At.is
+slice_bounds-insert-end c = pushed_in _ c.args.s.now _ _ _ _ _ c.store.ensures _ c.in-Some.is
 
 pub slice_bounds-insert-end-2 : goal.slice_bounds-insert-end-2
-slice_bounds-insert-end-2 c = sym (length-take-le _ _ (pushed_in _ c.args.s.now _ _ _ _ c.store.ensures _ _ c.in-At.is))
+slice_bounds-insert-end-2 c = sym (length-take-le _ _ (pushed_in _ c.args.s.now _ _ _ _ _ c.store.ensures _ c.in-Some.is))
 
 pub returns : goal.returns
 unfolding said_of
 returns c =
     λ rest l. fresh-done (holding rest c.args.gc c.args.strings) (lend_names _ _ _ l) _ c.requires.0 _ c.requires.1
-    (rw c.room.ensures at c.if-slots-room.false) _ _ c.store.ensures _ _ c.in-At.is _ _ _ c.insert-table.ensures
+    (rw c.room.ensures at c.if-slots-room.false) _ _ _ c.store.ensures _ c.in-Some.is _ _ _ c.insert-table.ensures

@@ -1,14 +1,12 @@
 -- `vm::State::allocate` meets its contract. Assumes nothing.
 use mathlib.Core.Path.{sym, ◌∙◌}
-use lib.Dec.{ltb}
-use borrow.Author.Tests.{ltb-true}
-use Rattle.memory.proofs.Tests.{both}
 use Rattle.gc.specs.Lent.{outcome}
 use Rattle.gc.proofs.Soundness as Soundness
+use Rattle.gc.proofs.Types.{ok_said}
 use Rattle.vm.specs.Machine.{lend_heap}
 use Rattle.vm.specs.Told.{said_of}
 use Rattle.vm.proofs.Buffers.{heap-low}
-use Rattle.vm.proofs.Replies.{allocate_10, allocate_13, allocate_9, allocate-told}
+use Rattle.vm.proofs.Replies.{allocate_10, allocate_13, allocate_9, allocate-told, no_kind, kind_aligned}
 use Rattle.vm.proofs.State.allocate.Goals as goal
 
 pub returns-then-not-heap_ok : goal.returns-then-not-heap_ok
@@ -17,25 +15,30 @@ returns-then-not-heap_ok c =
     λ l. rw c.refused.ensures
     (allocate_10 _ (lend_heap _ l) _ _ _ (sym c.heap_ok.ensures ∙ c.if-not-heap_ok.true))
 
-pub returns-then-not-kind-is_alignment : goal.returns-then-not-kind-is_alignment
+pub returns-in_default : goal.returns-in_default
 unfolding said_of
-returns-then-not-kind-is_alignment c =
-    λ l. rw c.refused-then-not-kind-is_alignment.ensures
+returns-in_default c =
+    λ l. rw c.refused-in_default.ensures
     (allocate_13 _ (lend_heap _ l) _ _ _ (sym c.heap_ok.ensures ∙ c.if-not-heap_ok.false)
-    (rw (← c.is_alignment.ensures) (c.if-not-kind-is_alignment.true)))
+    (no_kind _ _ c.in_default.ensures.1))
+
+pub returns-then-not-is_alignment : goal.returns-then-not-is_alignment
+unfolding said_of
+returns-then-not-is_alignment c =
+    λ l. rw c.refused-then-not-is_alignment.ensures
+    (allocate_13 _ (lend_heap _ l) _ _ _ (sym c.heap_ok.ensures ∙ c.if-not-heap_ok.false)
+    (kind_aligned _ _ (ok_said _ _ _ c.in-Ok.is c.try_from.ensures).1 ∙ sym c.is_alignment.ensures ∙ c.if-not-is_alignment.true))
 
 pub returns-then-not-sound : goal.returns-then-not-sound
 unfolding said_of
 returns-then-not-sound c =
     λ l. rw c.refused-then-not-sound.ensures
     (allocate_9 _ (lend_heap _ l) _ _ _ (sym c.heap_ok.ensures ∙ c.if-not-heap_ok.false)
-    (rw (← c.is_alignment.ensures) (c.if-not-kind-is_alignment.false)) (sym c.sound.ensures ∙ c.if-not-sound.true))
+    (kind_aligned _ _ (ok_said _ _ _ c.in-Ok.is c.try_from.ensures).1 ∙ sym c.is_alignment.ensures ∙ c.if-not-is_alignment.false)
+    (sym c.sound.ensures ∙ c.if-not-sound.true))
 
-pub from_number-requires : goal.from_number-requires
-from_number-requires c = ltb-true _ 4 (both (ltb c.args.kind 4) _ (c.if-not-kind-is_alignment.false)).0
-
-pub alloc-requires : goal.alloc-requires
-alloc-requires c =
+pub alloc-block-requires : goal.alloc-block-requires
+alloc-block-requires c =
     Soundness.sound _ _ (heap-low _ _ (sym c.heap_ok.ensures ∙ c.if-not-heap_ok.false))
     (sym c.sound.ensures ∙ c.if-not-sound.false)
 
@@ -43,8 +46,10 @@ pub returns : goal.returns
 unfolding said_of
 returns c =
     λ l.
+    let kind = ok_said _ _ _ c.in-Ok.is c.try_from.ensures in
     rw c.allocated.ensures
     (allocate-told _ (lend_heap _ l) _ _ _ (sym c.heap_ok.ensures ∙ c.if-not-heap_ok.false)
-    (rw (← c.is_alignment.ensures) (c.if-not-kind-is_alignment.false)) (sym c.sound.ensures ∙ c.if-not-sound.false)
-    (outcome c.alloc.result c.alloc.new.heap)
-    (rw (c.new-header.ensures.0, c.new-header.ensures.1, c.from_number.ensures) at c.alloc.ensures))
+    (kind_aligned _ _ kind.1 ∙ sym c.is_alignment.ensures ∙ c.if-not-is_alignment.false)
+    (sym c.sound.ensures ∙ c.if-not-sound.false)
+    (outcome c.alloc-block.result c.alloc-block.new.self c.alloc-block.new.heap)
+    (rw (c.new.ensures.0, c.new.ensures.1, kind.0) at c.alloc-block.ensures))

@@ -2,8 +2,8 @@
 use mathlib.Core.Path.{refl}
 use Rattle.vm.proofs.State.allocated.Goals as goal
 
-pub returns-in-At : goal.returns-in-At
-returns-in-At c = rw c.in-At.is refl
+pub returns-in-Some : goal.returns-in-Some
+returns-in-Some c = rw c.in-Some.is refl
 
-pub returns-in-Refused : goal.returns-in-Refused
-returns-in-Refused c = rw c.in-Refused.is c.refused.ensures
+pub returns-in-None : goal.returns-in-None
+returns-in-None c = rw c.in-None.is c.refused.ensures

@@ -26,8 +26,8 @@ pub overflow_add-result : goal.overflow_add-result
 overflow_add-result c =
     let low = heap-low _ _ (sym c.heap_ok.ensures ∙ c.if-not-heap_ok.false) in record { fits = omega arith }
 
-pub boxed-requires : goal.boxed-requires
-boxed-requires c =
+pub boxed-block-requires : goal.boxed-block-requires
+boxed-block-requires c =
     Soundness.sound _ _ (heap-low _ _ (sym c.heap_ok.ensures ∙ c.if-not-heap_ok.false))
     (sym c.sound.ensures ∙ c.if-not-sound.false)
 
@@ -43,5 +43,5 @@ unfolding said_of
 returns-in-Some c =
     λ l. rw (c.allocated.ensures, c.in-Some.is)
     (option_some _ (lend_heap _ l) (sym c.heap_ok.ensures ∙ c.if-not-heap_ok.false)
-    (sym c.sound.ensures ∙ c.if-not-sound.false) _ (outcome c.boxed.result c.boxed.new.heap)
-    c.boxed.ensures)
+    (sym c.sound.ensures ∙ c.if-not-sound.false) _ (outcome c.boxed-block.result c.boxed-block.new.gc c.boxed-block.new.heap)
+    c.boxed-block.ensures)
