@@ -43,7 +43,7 @@ pub fn unpack(words: &[u64]) -> State
     ensures { result ≡ unpacked words.now }
 {
     let mut regs: [u64; 32] = [0; 32];
-    memory::copy_words(&words[..32], &mut regs);
+    memory::copy(&words[..32], &mut regs);
     State {
         regs,
         pc: size(words[32]),
@@ -59,7 +59,7 @@ pub fn pack(state: State, words: &mut [u64])
     ensures { words.new ≡ over (packed state) words.old }
 {
     let regs = state.regs;
-    memory::copy_words(&regs, words);
+    memory::copy(&regs, words);
     let gc = state.gc;
     let strings = state.strings;
     let numbers: [u64; 8] = [
@@ -72,7 +72,7 @@ pub fn pack(state: State, words: &mut [u64])
         strings.active as u64,
         strings.len as u64,
     ];
-    memory::copy_words(&numbers, &mut words[32..]);
+    memory::copy(&numbers, &mut words[32..]);
 }
 
 // After an interning: of a state's words only these have changed.
@@ -88,5 +88,5 @@ pub fn pack_names(gc: Gc, strings: StrTable, words: &mut [u64])
         strings.active as u64,
         strings.len as u64,
     ];
-    memory::copy_words(&numbers, &mut words[34..]);
+    memory::copy(&numbers, &mut words[34..]);
 }

@@ -82,8 +82,8 @@ impl Metadata {
         requires { 16 ≤ length to.old }
         ensures { to.new ≡ over (header_of self.size self.flags) to.old }
     {
-        memory::store8(to, 0, self.size);
-        memory::store8(to, 8, memory::wide(self.flags));
+        memory::store::<8>(to, 0, self.size);
+        memory::store::<8>(to, 8, u64::from(self.flags));
     }
 }
 

@@ -124,7 +124,7 @@ fn load(at: Position, dst: usize, base: u64, offset: u64, regs: &mut [u64; 32], 
     let Place::At(i) = reach(at.gc, base, offset) else {
         return Turn::Stop(Anomaly::BAD_ADDRESS);
     };
-    regs[dst] = memory::load8(heap, i);
+    regs[dst] = memory::load::<8>(heap, i);
     at.to(at.pc + 1)
 }
 
@@ -138,7 +138,7 @@ fn store(at: Position, base: u64, offset: u64, value: u64, heap: &mut [u8]) -> T
     let Place::At(i) = reach(at.gc, base, offset) else {
         return Turn::Stop(Anomaly::BAD_ADDRESS);
     };
-    memory::store8(heap, i, value);
+    memory::store::<8>(heap, i, value);
     at.to(at.pc + 1)
 }
 

@@ -1,19 +1,21 @@
 -- Numbers as bytes: cut in two, read back, compared. Assumes nothing.
 use mathlib.Core.Path.{◌≡◌, refl, sym, ap, ap₂, ◌∙◌}
-use Prim.Native.Nat.{ℕ, zero, suc, ◌+◌, ◌*◌, ◌/◌, ◌%◌, ◌^◌, ◌≤◌, ◌<◌}
+use Prim.Native.Nat.{ℕ, zero, suc, ◌+◌, ◌-◌, ◌*◌, ◌/◌, ◌%◌, ◌^◌, ◌≤◌, ◌<◌}
 use mathlib.Core.Bool.{Bool, true, false, ◌&&◌}
 use mathlib.Core.List.{List, [], ◌∷◌, ◌++◌}
 use native.Mathlib.Omega.{arith}
 use native.Mathlib.Numerals.{add-one}
 use native.Mathlib.Nat.{suc_inj, suc-add, zero-add, one-mul, div-div-eq-div-mul, mul_comm, mul_assoc}
-use lib.ListN.{length, get_or, take, drop, length-drop}
-use lib.Seq.{drop-cons, drop-drop, get_or-drop, length-take-le, take-add}
+use lib.ListN.{length, get_or, take, drop, replicate, length-drop, length-append}
+use lib.Seq.{drop-cons, drop-drop, get_or-drop, length-take-le, take-add, take_all}
 use lib.Dec.{eqb}
 use lib.Pow.{pow-add}
+use Rattle.std.proofs.Common.{lit<, lit≤, slice_index}
+use Rattle.std.proofs.lemmas.List.{take_at}
+use Rattle.std.specs.Int.{w64, byte_at, byte_worth, bytes_low_first, sum_through, from_le_bytes, to_le_bytes}
 use borrow.Author.Tests.{eq-eqb, ne_eqb, eqb-true, eqb-false}
 use Rattle.memory.specs.Bytes.{bytes_of, value_of, number}
-use Rattle.memory.specs.Lists.{same, part, write}
-use Rattle.memory.proofs.Over.{write-append}
+use Rattle.memory.specs.Lists.{same, part}
 
 -- every element is a byte
 abbrev pub Bytes : List ℕ → Type 0
@@ -72,12 +74,50 @@ unfolding bytes_of
 length-bytes_of zero v = refl
 length-bytes_of (suc k) v = ap suc (length-bytes_of k (v / 256))
 
--- the m lower bytes written at a, then the n higher behind them
-pub write-add : (m n a v : ℕ) (xs : List ℕ) → write (a + m) (bytes_of n (v / 256 ^ m)) (write a (bytes_of m v) xs) ≡ write a (bytes_of (m + n) v) xs
-write-add m n a v xs =
-    ap (λ (k : ℕ). write (a + k) (bytes_of n (v / 256 ^ m)) (write a (bytes_of m v) xs)) (sym (length-bytes_of m v))
-    ∙ write-append a (bytes_of m v) (bytes_of n (v / 256 ^ m)) xs
-    ∙ ap (λ (l : List ℕ). write a l xs) (sym (bytes_of-add m n v))
+-- ---- as the number types read and write them
+
+sum-number : (k : ℕ) (bs : List ℕ) → k < length bs → sum_through (λ i. byte_worth i (slice_index bs i)) k ≡ number (suc k) 0 bs
+sum-number zero bs h = sym (number-one 0 bs h)
+sum-number (suc k) bs h =
+    let one : number 1 (suc k) bs ≡ slice_index bs (suc k) = number-one (suc k) bs h in
+    let more = number-add (suc k) 1 0 bs (omega arith) in
+    rw (sum-number k bs (omega arith), mul_comm (slice_index bs (suc k)) (256 ^ suc k), ← one, ← add-one (suc k), more, zero-add) refl
+
+value-zeros : (n k : ℕ) → value_of (drop n (replicate k 0)) ≡ 0
+unfolding value_of
+value-zeros zero zero = refl
+value-zeros (suc n) zero = refl
+value-zeros zero (suc k) = omega (arith, value-zeros zero k)
+value-zeros (suc n) (suc k) = value-zeros n k
+
+pub from_le_bytes-value : (bs : List ℕ) → length bs ≡ 8 → from_le_bytes w64 bs ≡ value_of bs
+from_le_bytes-value bs e = sum-number 7 bs (rw e (lit< tt)) ∙ ap value_of (take_all 8 bs (rw e (lit≤ tt)))
+
+-- up to 8 bytes, and zeros behind them
+from_le_bytes-padded : (n : ℕ) (xs : List ℕ) → length xs ≡ n → n ≤ 8 → from_le_bytes w64 (xs ++ drop n (replicate 8 0)) ≡ value_of xs
+from_le_bytes-padded n xs e h =
+    let l : length (xs ++ drop n (replicate 8 0)) ≡ 8 = rw (length-append, length-drop) (omega arith) in
+    from_le_bytes-value (xs ++ drop n (replicate 8 0)) l ∙ value-append xs (drop n (replicate 8 0)) ∙ rw (value-zeros n 8) (omega arith)
+
+byte_at-is : (i v : ℕ) → byte_at i v ≡ v / 256 ^ i % 256
+byte_at-is zero v = omega arith
+byte_at-is (suc i) v = refl
+
+bytes_low_first-is : (i k v : ℕ) → bytes_low_first i k v ≡ bytes_of k (v / 256 ^ i)
+unfolding bytes_of
+bytes_low_first-is i zero v = refl
+bytes_low_first-is i (suc k) v =
+    ap₂ ◌∷◌ (byte_at-is i v)
+    (bytes_low_first-is (suc i) k v
+    ∙ ap (bytes_of k) (sym (div-div-eq-div-mul v (256 ^ i) 256 ∙ ap (λ (p : ℕ). v / p) (sym (power_suc i)))))
+
+-- the lowest of a number's 8 bytes
+pub take-to_le_bytes : (n v : ℕ) → n ≤ 8 → take n (to_le_bytes w64 v) ≡ bytes_of n v
+take-to_le_bytes n v h =
+    let e : n + (8 - n) ≡ 8 = omega arith in
+    let whole : to_le_bytes w64 v ≡ bytes_of 8 v = bytes_low_first-is 0 8 v ∙ ap (bytes_of 8) (omega arith) in
+    ap (take n) (whole ∙ ap (λ (k : ℕ). bytes_of k v) (sym e) ∙ bytes_of-add n (8 - n) v)
+    ∙ take_at (bytes_of n v) (bytes_of (8 - n) (v / 256 ^ n)) n (length-bytes_of n v)
 
 -- ---- read back
 
@@ -96,6 +136,32 @@ value-bytes_of zero v h = omega arith
 value-bytes_of (suc k) v h =
     let e = value-bytes_of k (v / 256) (lower v (256 ^ k) (256 ^ suc k) (power_suc k) h) in
     omega (arith, e)
+
+value-lt : (xs : List ℕ) → Bytes xs → value_of xs < 256 ^ length xs
+unfolding value_of
+value-lt [] h = omega arith
+value-lt (x ∷ xs) h =
+    let b = h zero in
+    let e = power_suc (length xs) in
+    let below = value-lt xs (λ i. h (suc i)) in
+    omega arith
+
+number-lt : (a n : ℕ) (xs : List ℕ) → Bytes xs → a + n ≤ length xs → number n a xs < 256 ^ n
+number-lt a n xs b h = rw (part_length a n xs h) at (value-lt (part a n xs) (bytes_take n (drop a xs) (bytes_drop a xs b)))
+
+-- v is the number of the n bytes at a
+pub record Loaded (xs : List ℕ) (a n v : ℕ) : Type 0 where
+  pub is : v ≡ number n a xs
+  pub small : v < 256 ^ n
+
+-- they were copied over zeros, and read
+pub loaded : (xs : List ℕ) (a n v : ℕ) (copied : List ℕ) → Bytes xs → n ≤ 8 → a + n ≤ length xs → copied ≡ take (a + n - a) (drop a xs)
+    → v ≡ from_le_bytes w64 (copied ++ drop n (replicate 8 0)) → Loaded xs a n v
+loaded xs a n v copied b h k e q =
+    let m : a + n - a ≡ n = omega arith in
+    let p : copied ≡ part a n xs = e ∙ ap (λ (j : ℕ). take j (drop a xs)) m in
+    let r : v ≡ number n a xs = q ∙ rw p (from_le_bytes-padded n (part a n xs) (part_length a n xs k) h) in
+    record { is = r; small = rw r (number-lt a n xs b k) }
 
 -- ---- compared
 

@@ -4,4 +4,3 @@ pub mod Over
 pub mod Writes
 pub mod Bytes
 pub mod Same
-pub mod Fills

@@ -3,12 +3,14 @@ use mathlib.Core.Path.{◌≡◌, refl, sym, ap, ◌∙◌}
 use Prim.Native.Nat.{ℕ, zero, suc, ◌+◌, ◌-◌, ◌≤◌, ◌<◌}
 use mathlib.Core.List.{List, [], ◌∷◌, ◌++◌, append-nil}
 use native.Mathlib.Omega.{arith}
+use native.Mathlib.Numerals.{add-one}
 use native.Mathlib.Nat.{not-suc-le-zero, le_of_suc-le-suc, zero-add, suc-add}
-use lib.ListN.{length, take, drop, set, length-drop, drop_of_length-le}
-use lib.Seq.{take_all, sets}
+use lib.ListN.{length, get_or, take, drop, set, length-drop, drop_of_length-le}
+use lib.Seq.{take_all, sets, length-take-le, take-suc}
+use borrow.Rule.Slice.PartMut.{put_mid}
 use Rattle.memory.specs.Lists.{over, write}
 
-pub length_over : (new old : List ℕ) → length (over new old) ≡ length old
+pub length_over : {A : Type 0} (new old : List A) → length (over new old) ≡ length old
 unfolding over
 length_over [] old = refl
 length_over (x ∷ new) [] = refl
@@ -21,38 +23,47 @@ length-write (suc a) new [] = refl
 length-write (suc a) new (y ∷ old) = ap suc (length-write a new old)
 
 -- what was there written over itself
-pub over-take : (d : ℕ) (xs : List ℕ) → over (take d xs) xs ≡ xs
+pub over-take : {A : Type 0} (d : ℕ) (xs : List A) → over (take d xs) xs ≡ xs
 unfolding over
 over-take zero xs = refl
 over-take (suc d) [] = refl
-over-take (suc d) (x ∷ xs) = ap (λ (r : List ℕ). x ∷ r) (over-take d xs)
+over-take (suc d) (x ∷ xs) = ap (λ r. x ∷ r) (over-take d xs)
 
-pub take-over : (new old : List ℕ) → length new ≤ length old → take (length new) (over new old) ≡ new
+pub take-over : {A : Type 0} (new old : List A) → length new ≤ length old → take (length new) (over new old) ≡ new
 unfolding over
 take-over [] old h = refl
 take-over (x ∷ new) [] h = absurd (not-suc-le-zero h)
-take-over (x ∷ new) (y ∷ old) h = ap (λ (r : List ℕ). x ∷ r) (take-over new old (le_of_suc-le-suc h))
+take-over (x ∷ new) (y ∷ old) h = ap (λ r. x ∷ r) (take-over new old (le_of_suc-le-suc h))
 
 -- the form in which a lent front is given back
-pub over-is : (new old : List ℕ) → length new ≤ length old → over new old ≡ new ++ drop (length new) old
+pub over-is : {A : Type 0} (new old : List A) → length new ≤ length old → over new old ≡ new ++ drop (length new) old
 unfolding over
 over-is [] old h = refl
 over-is (x ∷ new) [] h = absurd (not-suc-le-zero h)
-over-is (x ∷ new) (y ∷ old) h = ap (λ (r : List ℕ). x ∷ r) (over-is new old (le_of_suc-le-suc h))
+over-is (x ∷ new) (y ∷ old) h = ap (λ r. x ∷ r) (over-is new old (le_of_suc-le-suc h))
 
-pub over-over : (new mid old : List ℕ) → length mid ≤ length new → over new (over mid old) ≡ over new old
+pub over-over : {A : Type 0} (new mid old : List A) → length mid ≤ length new → over new (over mid old) ≡ over new old
 unfolding over
 over-over new [] old h = refl
 over-over [] (m ∷ mid) old h = absurd (not-suc-le-zero h)
 over-over (x ∷ new) (m ∷ mid) [] h = refl
-over-over (x ∷ new) (m ∷ mid) (y ∷ old) h = ap (λ (r : List ℕ). x ∷ r) (over-over new mid old (le_of_suc-le-suc h))
+over-over (x ∷ new) (m ∷ mid) (y ∷ old) h = ap (λ r. x ∷ r) (over-over new mid old (le_of_suc-le-suc h))
 
 -- one more element laid over
-pub over-more : (xs : List ℕ) (v : ℕ) (h : List ℕ) → length xs < length h → set (over xs h) (length xs) v ≡ over (xs ++ (v ∷ [])) h
+pub over-more : {A : Type 0} (xs : List A) (v : A) (h : List A) → length xs < length h → set (over xs h) (length xs) v ≡ over (xs ++ (v ∷ [])) h
 unfolding over
 over-more xs v [] k = absurd (not-suc-le-zero k)
 over-more [] v (y ∷ h) k = refl
-over-more (x ∷ xs) v (y ∷ h) k = ap (λ (r : List ℕ). x ∷ r) (over-more xs v h (le_of_suc-le-suc k))
+over-more (x ∷ xs) v (y ∷ h) k = ap (λ r. x ∷ r) (over-more xs v h (le_of_suc-le-suc k))
+
+-- one more of them, read from where they stand
+pub over-read : {A : Type 0} (from to : List A) (i : ℕ) (x : A) → i < length from → length from ≤ length to → x ≡ get_or from i x
+    → set (over (take i from) to) i x ≡ over (take (i + 1) from) to
+over-read from to i x h k e =
+    let l : length (take i from) ≡ i = length-take-le i from (omega arith) in
+    let more : take i from ++ (x ∷ []) ≡ take (suc i) from = ap (λ y. take i from ++ (y ∷ [])) e ∙ sym (take-suc from i x h) in
+    let p : set (over (take i from) to) (length (take i from)) x ≡ over (take i from ++ (x ∷ [])) to = over-more (take i from) x to (rw l (omega arith)) in
+    rw (add-one, ← more) (rw l at p)
 
 -- the form in which a lent tail is given back
 pub write-is : (a : ℕ) (bs xs : List ℕ) → write a bs xs ≡ take a xs ++ over bs (drop a xs)
@@ -114,6 +125,13 @@ pub tail_returned : (a n : ℕ) (bs xs : List ℕ) → n ≡ length xs → a ≤
 tail_returned a n bs xs e h =
     let l : length (drop a xs) ≤ n - a = rw (length-drop, e) (omega arith) in
     rw (take_all (n - a) (drop a xs) l, drop_of_length-le (drop a xs) l, append-nil) (sym (write-is a bs xs))
+
+-- a part in the middle, &mut xs[a..a + n]
+pub middle_returned : (a n : ℕ) (bs xs : List ℕ) → length bs ≡ n → a + n ≤ length xs → put_mid a (a + n - a) xs bs ≡ write a bs xs
+middle_returned a n bs xs e h =
+    let k : a + n - a ≡ n = omega arith in
+    let l : length bs ≤ length (drop a xs) = rw (length-drop, e) (omega arith) in
+    rw (k, ← e) (ap (λ (r : List ℕ). take a xs ++ r) (sym (over-is bs (drop a xs) l)) ∙ sym (write-is a bs xs))
 
 -- a front, &mut xs[..n], where the whole was laid over before
 pub front_returned : (new mid old : List ℕ) (n : ℕ) → length new ≡ n → length mid ≡ n → n ≤ length old → new ++ drop n (over mid old) ≡ over new old

@@ -2,7 +2,7 @@
 use Rattle.std.specs.Prelude.{ℕ, zero, suc, ◌+◌, ◌≡◌, Bool, true, false, ◌&&◌, List, [], ◌∷◌, length, take, drop, eqb}
 
 -- new written over old from its beginning; what lies past the end of old is lost
-unfoldable pub over : List ℕ → List ℕ → List ℕ
+unfoldable pub over : {A : Type 0} → List A → List A → List A
 over [] old = old
 over (x ∷ new) [] = []
 over (x ∷ new) (y ∷ old) = x ∷ over new old

@@ -201,7 +201,7 @@ pub fn intern_small(
                 hash,
             );
             let mut bytes: [u8; 8] = [0; 8];
-            memory::store8(&mut bytes, 0, word);
+            memory::store::<8>(&mut bytes, 0, word);
             known(found, gc, strings, &bytes[..len], hash, heap, slots, spare)
         }
     }

@@ -105,7 +105,7 @@ fn str_hash(base: u64, heap: &[u8], v: u64) -> u32
         return 0;
     }
     let at = (v - base) as usize + 4;
-    memory::load4(heap, at) as u32
+    memory::load::<4>(heap, at) as u32
 }
 
 // The old slots placed again, in slot order.
@@ -129,8 +129,8 @@ fn rehash(base: u64, heap: &[u8], active: usize, room: usize, slots: &mut [u64],
         ≡ over (moved base heap.now (take active slots.old) (replicate room 0)) slots.old }
     ensures spare_after { spare.new ≡ over (take active slots.old) spare.old }
 {
-    memory::copy_words(&slots[..active], spare);
-    memory::clear_words(&mut slots[..room]);
+    memory::copy(&slots[..active], spare);
+    slots[..room].fill(0);
     place_all(base, heap, &spare[..active], &mut slots[..room]);
 }
 

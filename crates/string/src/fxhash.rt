@@ -33,13 +33,13 @@ fn few_bytes(bytes: &[u8]) -> u64
         return 0;
     }
     if n == 1 {
-        return memory::wide(bytes[0]);
+        return u64::from(bytes[0]);
     }
-    let low = memory::load2(bytes, 0);
+    let low = memory::load::<2>(bytes, 0);
     if n == 2 {
         return low;
     }
-    low + memory::wide(bytes[2]) * 65536
+    low + u64::from(bytes[2]) * 65536
 }
 
 // At most 8 bytes as a little-endian number, zero above.
@@ -52,9 +52,9 @@ pub fn small_word(bytes: &[u8]) -> u64
         return few_bytes(bytes);
     }
     if n == 8 {
-        return memory::load8(bytes, 0);
+        return memory::load::<8>(bytes, 0);
     }
-    let low = memory::load4(bytes, 0);
+    let low = memory::load::<4>(bytes, 0);
     low + few_bytes(&bytes[4..]) * 0x1_0000_0000
 }
 
@@ -72,7 +72,7 @@ pub fn hash(bytes: &[u8]) -> u32
     let mut h = n as u64;
     let mut at: usize = 0;
     while 8 <= n - at {
-        h = mix(h, memory::load8(bytes, at));
+        h = mix(h, memory::load::<8>(bytes, at));
         at += 8;
     }
     if at < n {

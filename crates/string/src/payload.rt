@@ -19,9 +19,9 @@ pub fn write_payload(to: &mut [u8], s: &[u8], hash: u32)
     requires { payload_size (length s.now) ≤ length to.old }
     ensures { to.new ≡ over (payload_of s.now hash) to.old }
 {
-    memory::store4(to, 0, s.len() as u64);
-    memory::store4(to, 4, hash as u64);
-    memory::copy_bytes(s, &mut to[HEADER_SIZE..]);
+    memory::store::<4>(to, 0, s.len() as u64);
+    memory::store::<4>(to, 4, hash as u64);
+    memory::copy(s, &mut to[HEADER_SIZE..]);
 }
 
 // Two equally long byte strings, by 8 bytes as long as there are as many.
@@ -32,7 +32,7 @@ fn same_bytes(a: &[u8], b: &[u8]) -> bool
     let n = a.len();
     let mut i: usize = 0;
     while 8 <= n - i {
-        if memory::load8(a, i) != memory::load8(b, i) {
+        if memory::load::<8>(a, i) != memory::load::<8>(b, i) {
             return false;
         }
         i += 8;
@@ -69,10 +69,10 @@ fn bytes_of(base: u64, heap: &[u8], len: usize, hash: u32, v: u64) -> Payload
     }
     let at = (v - base) as usize;
     let from = at + HEADER_SIZE;
-    if memory::load4(heap, at) != len as u64 {
+    if memory::load::<4>(heap, at) != len as u64 {
         return Payload::Other;
     }
-    if memory::load4(heap, at + 4) != hash as u64 {
+    if memory::load::<4>(heap, at + 4) != hash as u64 {
         return Payload::Other;
     }
     if heap.len() - from < len {

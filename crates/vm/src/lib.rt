@@ -69,8 +69,8 @@ fn write_box(to: &mut [u8], tag: u64, value: u64)
     requires { 16 ≤ length to.old }
     ensures { to.new ≡ over (box_of tag value) to.old }
 {
-    memory::store8(to, 0, tag);
-    memory::store8(to, 8, value);
+    memory::store::<8>(to, 0, tag);
+    memory::store::<8>(to, 8, value);
 }
 
 impl State {

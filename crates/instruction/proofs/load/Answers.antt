@@ -12,10 +12,10 @@ returns-in_default c =
     λ s l fit. sym
     (turn_load_outside s _ _ (lend_heap _ l) fit _ _ (sym c.reach.ensures ∙ c.in_default.is) _)
 
-pub load8-requires : goal.load8-requires
-load8-requires c = omega (arith, c.requires.2.in_heap, place_room _ _ _ (sym c.reach.ensures ∙ c.in-At.is))
+pub load-requires : goal.load-requires
+load-requires c = omega (arith, c.requires.2.in_heap, place_room _ _ _ (sym c.reach.ensures ∙ c.in-At.is))
 
 pub returns : goal.returns
 returns c =
-    λ s l fit. rw (c.to.ensures, c.load8.ensures)
+    λ s l fit. rw (c.to.ensures, c.load.ensures.value)
     (sym (turn_load s _ _ (lend_heap _ l) fit _ _ _ (sym c.reach.ensures ∙ c.in-At.is) _))

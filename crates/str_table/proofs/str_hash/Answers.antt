@@ -23,8 +23,8 @@ overflow_sub-at c = omega (arith, header c)
 pub overflow_add-at : goal.overflow_add-at
 overflow_add-at c = omega (arith, header c)
 
-pub load4-requires : goal.load4-requires
-load4-requires c = omega (arith, header c)
+pub load-requires : goal.load-requires
+load-requires c = omega (arith, header c)
 
 pub returns : goal.returns
-returns c = c.load4.ensures.0 ∙ hash_read _ _ _ _ c.header_in.ensures c.if-not-header_in.false
+returns c = c.load.ensures.value ∙ hash_read _ _ _ _ c.header_in.ensures c.if-not-header_in.false

@@ -7,5 +7,5 @@ use Rattle.vm.proofs.write_box.Goals as goal
 
 pub returns : goal.returns
 returns c =
-    c.store8-2.ensures ∙ ap (write 8 (bytes_of 8 c.args.value)) c.store8.ensures
+    c.store-2.ensures ∙ ap (write 8 (bytes_of 8 c.args.value)) c.store.ensures
     ∙ two-written c.args.tag c.args.value c.args.to.now

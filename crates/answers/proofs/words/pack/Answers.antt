@@ -5,10 +5,10 @@ use Rattle.answers.proofs.Packing.{packed-home}
 use borrow.Author.Rules.{rules}
 use Rattle.answers.proofs.words.pack.Goals as goal
 
-pub copy_words-requires : goal.copy_words-requires
-copy_words-requires c =
+pub copy-requires : goal.copy-requires
+copy-requires c =
     let long : length c.args.state.regs ≡ 32 = search rules in
     rw long (search rules)
 
 pub returns : goal.returns
-returns c = packed-home _ _ _ _ (search rules) c.requires c.copy_words.ensures c.copy_words-2.ensures
+returns c = packed-home _ _ _ _ (search rules) c.requires c.copy.ensures c.copy-2.ensures

@@ -3,4 +3,4 @@ use Rattle.answers.proofs.Packing.{names-home}
 use Rattle.answers.proofs.words.pack_names.Goals as goal
 
 pub returns : goal.returns
-returns c = names-home _ _ _ _ c.requires c.copy_words.ensures
+returns c = names-home _ _ _ _ c.requires c.copy.ensures

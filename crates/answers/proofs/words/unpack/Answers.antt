@@ -7,17 +7,17 @@ use Rattle.answers.proofs.Packing.{over_whole}
 use borrow.Author.Rules.{rules}
 use Rattle.answers.proofs.words.unpack.Goals as goal
 
-pub slice_bounds-copy_words-end : goal.slice_bounds-copy_words-end
-slice_bounds-copy_words-end c = sym (length-take-le 32 c.args.words.now (omega arith))
+pub slice_bounds-copy-end : goal.slice_bounds-copy-end
+slice_bounds-copy-end c = sym (length-take-le 32 c.args.words.now (omega arith))
 
-pub copy_words-requires : goal.copy_words-requires
-copy_words-requires c = rw (length-take-le 32 c.args.words.now (omega arith)) (search rules)
+pub copy-requires : goal.copy-requires
+copy-requires c = rw (length-take-le 32 c.args.words.now (omega arith)) (search rules)
 
 pub returns : goal.returns
 unfolding unpacked
 returns c =
     rw (
-      c.copy_words.ensures,
+      c.copy.ensures,
       c.size.ensures,
       c.size-2.ensures,
       c.unpack_heap.ensures,

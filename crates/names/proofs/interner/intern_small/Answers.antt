@@ -53,15 +53,15 @@ pub get_small-found-requires : goal.get_small-found-requires
 get_small-found-requires c = small_says _ _ (small (goal.at.get_small-found-requires c).Else-not-small_ok)
 
 pub slice_bounds-bytes-end : goal.slice_bounds-bytes-end
-slice_bounds-bytes-end c = small_room _ _ (small (goal.at.slice_bounds-bytes-end c).Else-not-small_ok) _ _ refl c.store8.ensures
+slice_bounds-bytes-end c = small_room _ _ (small (goal.at.slice_bounds-bytes-end c).Else-not-small_ok) _ _ refl c.store.ensures
 
 pub slice_bounds-known-end : goal.slice_bounds-known-end
 slice_bounds-known-end c =
-    sym (length-take-le _ _ (small_room _ _ (small (goal.at.slice_bounds-known-end c).Else-not-small_ok) _ _ refl c.store8.ensures))
+    sym (length-take-le _ _ (small_room _ _ (small (goal.at.slice_bounds-known-end c).Else-not-small_ok) _ _ refl c.store.ensures))
 
 pub known-requires : goal.known-requires
 known-requires c =
-    (belongs (goal.at.known-requires c).In-Passed, small_hashed _ _ (small (goal.at.known-requires c).Else-not-small_ok) _ _ refl c.store8.ensures _ c.small_hash-hash.ensures)
+    (belongs (goal.at.known-requires c).In-Passed, small_hashed _ _ (small (goal.at.known-requires c).Else-not-small_ok) _ _ refl c.store.ensures _ c.small_hash-hash.ensures)
 
 pub returns-in-Failed : goal.returns-in-Failed
 unfolding said_of
@@ -73,5 +73,5 @@ returns-in-Failed c =
 pub returns-else-not-small_ok : goal.returns-else-not-small_ok
 returns-else-not-small_ok c =
     λ rest l. small_told (holding rest c.args.gc c.args.strings) (lend_names _ _ _ l) _ _ (fine (goal.at.returns-else-not-small_ok c).In-Passed rest l)
-    (small (goal.at.returns-else-not-small_ok c).Else-not-small_ok) _ c.small_hash-hash.ensures _ (small_bytes _ _ (small (goal.at.returns-else-not-small_ok c).Else-not-small_ok) _ _ refl c.store8.ensures) _ _
+    (small (goal.at.returns-else-not-small_ok c).Else-not-small_ok) _ c.small_hash-hash.ensures _ (small_bytes _ _ (small (goal.at.returns-else-not-small_ok c).Else-not-small_ok) _ _ refl c.store.ensures) _ _
     (c.known.ensures rest l) c.get_small-found.ensures

@@ -14,12 +14,12 @@ returns-then-n-eq0 c = (whole 0 c.args.bytes.now c.if-n-eq0.true, search rules)
 pub returns-then-n-eq1 : goal.returns-then-n-eq1
 returns-then-n-eq1 c =
     let bytes = c.args.bytes.now in
-    (c.wide.ensures.0 ∙ sym (number-one 0 bytes (omega arith)) ∙ whole 1 bytes c.if-n-eq1.true, search rules)
+    (c.from.ensures ∙ sym (number-one 0 bytes (omega arith)) ∙ whole 1 bytes c.if-n-eq1.true, search rules)
 
 pub returns-then-n-eq2 : goal.returns-then-n-eq2
-returns-then-n-eq2 c = (c.load2-low.ensures.0 ∙ whole 2 c.args.bytes.now c.if-n-eq2.true, search rules)
+returns-then-n-eq2 c = (c.load-low.ensures.value ∙ whole 2 c.args.bytes.now c.if-n-eq2.true, search rules)
 
 pub returns : goal.returns
 returns c =
     let bytes = c.args.bytes.now in
-    (omega (arith, c.load2-low.ensures.0, c.wide-2.ensures.0, three bytes (omega arith)), search rules)
+    (omega (arith, c.load-low.ensures.value, c.from-2.ensures, three bytes (omega arith)), search rules)

@@ -6,7 +6,7 @@ pub loop-at-init : goal.loop-at-init
 loop-at-init c = hash_start _
 
 pub loop-at-preserved : goal.loop-at-preserved
-loop-at-preserved c = hash_whole _ _ _ c.loop-at.invariant _ _ c.loop-at-test.true c.load8.ensures c.mix-h.ensures
+loop-at-preserved c = hash_whole _ _ _ c.loop-at.invariant _ _ c.loop-at-test.true c.load.ensures.value c.mix-h.ensures
 
 pub returns-then-at-n : goal.returns-then-at-n
 returns-then-at-n c =

@@ -21,22 +21,22 @@ overflow_sub-at c = omega (arith, header (goal.at.overflow_sub-at c).Else-not-he
 pub overflow_add-from : goal.overflow_add-from
 overflow_add-from c = omega (arith, header (goal.at.overflow_add-from c).Else-not-header_in)
 
-pub load4-requires : goal.load4-requires
-load4-requires c = omega (arith, header (goal.at.load4-requires c).Else-not-header_in)
+pub load-requires : goal.load-requires
+load-requires c = omega (arith, header (goal.at.load-requires c).Else-not-header_in)
 
-pub returns-then-load4-len : goal.returns-then-load4-len
-returns-then-load4-len c =
-    other_length _ _ _ _ _ (header (goal.at.returns-then-load4-len c).Else-not-header_in) _ c.load4.ensures.0 (λ e. omega arith)
+pub returns-then-load-len : goal.returns-then-load-len
+returns-then-load-len c =
+    other_length _ _ _ _ _ (header (goal.at.returns-then-load-len c).Else-not-header_in) _ c.load.ensures.value (λ e. omega arith)
 
 pub overflow_add-at : goal.overflow_add-at
 overflow_add-at c = omega (arith, header (goal.at.overflow_add-at c).Else-not-header_in)
 
-pub load4-requires-2 : goal.load4-requires-2
-load4-requires-2 c = omega (arith, header (goal.at.load4-requires-2 c).Else-not-header_in)
+pub load-requires-2 : goal.load-requires-2
+load-requires-2 c = omega (arith, header (goal.at.load-requires-2 c).Else-not-header_in)
 
-pub returns-then-load4-hash : goal.returns-then-load4-hash
-returns-then-load4-hash c =
-    other_hash _ _ _ _ _ (header (goal.at.returns-then-load4-hash c).Else-not-header_in) _ c.load4-2.ensures.0 (λ e. omega arith)
+pub returns-then-load-hash : goal.returns-then-load-hash
+returns-then-load-hash c =
+    other_hash _ _ _ _ _ (header (goal.at.returns-then-load-hash c).Else-not-header_in) _ c.load-2.ensures.value (λ e. omega arith)
 
 pub overflow_sub-heap : goal.overflow_sub-heap
 overflow_sub-heap c = omega (arith, header (goal.at.overflow_sub-heap c).Else-not-header_in)
@@ -46,4 +46,4 @@ returns-then-heap-from c = cut_short _ _ _ _ _ (header (goal.at.returns-then-hea
 
 pub returns : goal.returns
 returns c =
-    stands _ _ _ _ _ (header (goal.at.returns c).Else-not-header_in) _ _ c.load4.ensures.0 (omega arith) c.load4-2.ensures.0 (omega arith) (omega arith)
+    stands _ _ _ _ _ (header (goal.at.returns c).Else-not-header_in) _ _ c.load.ensures.value (omega arith) c.load-2.ensures.value (omega arith) (omega arith)

@@ -14,15 +14,15 @@ loop-i-init c =
     compare_start _ _ c.requires (Bytes-fits _ c.type_inv.a)
     (Bytes-fits _ c.type_inv.b)
 
-pub returns-then-load8 : goal.returns-then-load8
-returns-then-load8 c =
+pub returns-then-load : goal.returns-then-load
+returns-then-load c =
     compare_differs _ _ c.requires (Bytes-fits _ c.type_inv.a) (Bytes-fits _ c.type_inv.b) _ c.loop-i.invariant c.loop-i-test.true _ _
-    c.load8.ensures c.load8-in-loop-i.ensures c.if-load8.true
+    c.load.ensures.value c.load-in-loop-i.ensures.value c.if-load.true
 
 pub loop-i-preserved : goal.loop-i-preserved
 loop-i-preserved c =
     compare_next _ _ c.requires (Bytes-fits _ c.type_inv.a) (Bytes-fits _ c.type_inv.b) _ c.loop-i.invariant c.loop-i-test.true _ _
-    c.load8.ensures c.load8-in-loop-i.ensures c.if-load8.false
+    c.load.ensures.value c.load-in-loop-i.ensures.value c.if-load.false
 
 pub returns : goal.returns
 returns c =

@@ -6,4 +6,4 @@ use Rattle.string.proofs.payload.write_payload.Goals as goal
 pub returns : goal.returns
 returns c =
     payload_written c.args.s.now c.args.to.now _ _ _ c.args.hash (omega (arith, c.requires))
-    c.store4.ensures c.store4-2.ensures c.copy_bytes.ensures
+    c.store.ensures c.store-2.ensures c.copy.ensures
