@@ -14,7 +14,7 @@ use Rattle.text.specs.Sections.{section_in}
 use Rattle.text.proofs.Tables.{switch_ends_firsts, lookup-ends-firsts, lookup-defaults-firsts}
 use Rattle.image_words.specs.Joined.{joined}
 use Rattle.image_words.specs.Said.{image_said}
-use Rattle.image_runner.specs.Runner.{room_for}
+use Rattle.image_runner.specs.Runner.{sections_fit, room_for}
 use Rattle.image_words.proofs.Joins.{joined-size}
 
 pub record Fits (h : Head) (s : List ℕ) : Type 0 where
@@ -29,26 +29,27 @@ pub record Fits (h : Head) (s : List ℕ) : Type 0 where
   pub values_fit : length (section_in LookupEntries s) ≤ 4096
 
 pub fitting : (h : Head) (s : List ℕ) → room_for h s ≡ true → Fits h s
-unfolding room_for
+unfolding room_for sections_fit
 fitting h s e =
     let head = both (leb h.pages 8 && (leb h.frames 4096 && leb h.slots 4096)) _ e in
     let pages = both (leb h.pages 8) _ head.0 in
     let rest = both (leb h.frames 4096) _ pages.1 in
-    let parts = both (leb (length (section_in Code s)) 4096 && leb (length (section_in Globals s)) 4096) _ head.1 in
-    let code = both (leb (length (section_in Code s)) 4096) _ parts.0 in
-    let tables = both (leb (length (section_in SwitchFirsts s)) 256 && leb (length (section_in SwitchEntries s)) 4096) _ parts.1 in
-    let jumps = both (leb (length (section_in SwitchFirsts s)) 256) _ tables.0 in
-    let maps = both (leb (length (section_in LookupFirsts s)) 256) _ tables.1 in
+    let code = both (leb (length (section_in Code s)) 4096) _ head.1 in
+    let globals = both (leb (length (section_in Globals s)) 4096) _ code.1 in
+    let switches = both (leb (length (section_in SwitchFirsts s)) 256) _ globals.1 in
+    let targets = both (leb (length (section_in SwitchEntries s)) 4096) _ switches.1 in
+    let lookups = both (leb (length (section_in LookupFirsts s)) 256) _ targets.1 in
+    let values = both (leb (length (section_in LookupEntries s)) 4096) _ lookups.1 in
     record {
       pages = leb-true _ _ pages.0;
       frames = leb-true _ _ rest.0;
       slots = leb-true _ _ rest.1;
       words_fit = leb-true _ _ code.0;
-      globals_fit = leb-true _ _ code.1;
-      switches_fit = leb-true _ _ jumps.0;
-      targets_fit = leb-true _ _ jumps.1;
-      lookups_fit = leb-true _ _ maps.0;
-      values_fit = leb-true _ _ maps.1;
+      globals_fit = leb-true _ _ globals.0;
+      switches_fit = leb-true _ _ switches.0;
+      targets_fit = leb-true _ _ targets.0;
+      lookups_fit = leb-true _ _ lookups.0;
+      values_fit = leb-true _ _ values.0;
     }
 
 -- and so the words of the image

@@ -35,7 +35,7 @@ use Rattle.report.specs.Report.{end_line, register_line, register_lines, state_l
 use Rattle.image_names.specs.Named.{intern_on, intern_all}
 use Rattle.outcome.specs.Outcome.{reply_text, run_text}
 use Rattle.rating.specs.Rated.{ready_text, started_text}
-use Rattle.image_runner.specs.Runner.{room_for, image_text, answer_of}
+use Rattle.image_runner.specs.Runner.{sections_fit, room_for, image_text, answer_of}
 
 -- a header that asks for one page
 abbrev one_page : List ℕ
@@ -108,6 +108,6 @@ unfolding rows hold_lists singles naming allocating nine_pages digits worked byt
     run_leaves host_leaves granted host_call run_call act frames_ok heap_ok slots_ok returns_ok frames_belong pages_belong names_belong tests tests_by failing
     tried perform first_page first_memory blank begin starts start Digits.value_of_digit Digits.all_digits Digits.read_on Digits.numbers
     Lines.before Lines.lines_of Lines.up_to Lines.count_ok Lines.line_ok rest_ok lines_ok text_ok head_in head_of adds section_of names_of digit_of_value
-    hex_of end_line register_line register_lines state_line report_of refusal_of room_for intern_on intern_all reply_text run_text ready_text
+    hex_of end_line register_line register_lines state_line report_of refusal_of sections_fit room_for intern_on intern_all reply_text run_text ready_text
     started_text image_text answer_of
 all_hold = refl

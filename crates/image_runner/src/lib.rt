@@ -1,19 +1,17 @@
 // The image runner: from the text of an image to the text of its report, within the runner's limits.
 #![tactic(auto)]
 
-ghost use Rattle.std.specs.Prelude.{◌≡◌, true, ◌≤◌, length};
-ghost use Rattle.report.specs.Report.{longest};
+ghost use Rattle.std.specs.Prelude.{◌≡◌, true, length};
 ghost use Rattle.text.specs.Text.{text_ok, head_of};
 ghost use Rattle.text.specs.Sections.{section_in};
-ghost use Rattle.outcome.specs.Outcome.{WritesText};
-ghost use Rattle.image_runner.specs.Runner.{room_for, image_text, answer_of};
+ghost use Rattle.image_runner.specs.Runner.{sections_fit, room_for, image_text, answer_of};
 
 use anomaly::Refusal;
 use gc::PAGE_SIZE;
 use image_words::join;
 use program::HEADER;
 use rating::rate;
-use report::LONGEST;
+use report::{Text, refusal_text};
 use text::sections::Section;
 use text::{Head, Reading, sections};
 
@@ -40,6 +38,16 @@ const MAX_HEAP: usize = MAX_PAGES as usize * PAGE_SIZE;
 // The longest name: a byte for two digits of the longest text.
 const MAX_NAME: usize = text::MAX_LEN / 2;
 
+// The sections that an image's lines fill, each with the most numbers that it may have.
+const LIMITS: [(Section, usize); 6] = [
+    (Section::Code, MAX_WORDS),
+    (Section::Globals, MAX_GLOBALS),
+    (Section::SwitchFirsts, MAX_TABLES),
+    (Section::SwitchEntries, MAX_ENTRIES),
+    (Section::LookupFirsts, MAX_TABLES),
+    (Section::LookupEntries, MAX_ENTRIES),
+];
+
 // How many numbers a section has.
 fn count(input: &[u8], section: Section) -> usize
     ensures { result ≡ length (section_in section input.now) }
@@ -48,31 +56,33 @@ fn count(input: &[u8], section: Section) -> usize
     sections::gather(input, section, &mut none)
 }
 
+// Whether no section has more numbers than it may.
+fn sections_fit(input: &[u8]) -> bool
+    ensures { result ≡ sections_fit input.now }
+{
+    LIMITS
+        .iter()
+        .all(|&(section, limit)| count(input, section) <= limit)
+}
+
 // Whether the runner has room for an image; if not, the answer is 10.
 fn room_for(input: &[u8], head: Head) -> bool
     ensures { result ≡ room_for head input.now }
 {
-    let words = count(input, Section::Code);
-    let globals = count(input, Section::Globals);
-    let switches = count(input, Section::SwitchFirsts);
-    let targets = count(input, Section::SwitchEntries);
-    let lookups = count(input, Section::LookupFirsts);
-    let values = count(input, Section::LookupEntries);
-    ((head.pages <= MAX_PAGES)
-        & ((head.frames <= MAX_FRAMES as u64) & (head.slots <= MAX_SLOTS as u64)))
-        & (((words <= MAX_WORDS) & (globals <= MAX_GLOBALS))
-            & (((switches <= MAX_TABLES) & (targets <= MAX_ENTRIES))
-                & ((lookups <= MAX_TABLES) & (values <= MAX_ENTRIES))))
+    head.pages <= MAX_PAGES
+        && head.frames <= MAX_FRAMES as u64
+        && head.slots <= MAX_SLOTS as u64
+        && sections_fit(input)
 }
 
 // An image joined in a buffer of the runner's limits, and rated.
-fn answer_image(input: &[u8], head: Head, out: &mut [u8]) -> usize
-    requires { (text_ok input.now ≡ true) × (head ≡ head_of input.now) × (longest ≤ length out.old) }
-    ensures { WritesText out.old (image_text (room_for head input.now) input.now head) out.new
-        result }
+fn image_text(input: &[u8], head: Head) -> Text
+    requires image { text_ok input.now ≡ true }
+    requires head { head ≡ head_of input.now }
+    ensures { result.bytes ≡ image_text (room_for head input.now) input.now head }
 {
     if !room_for(input, head) {
-        return report::put_refusal(out, 0, Refusal::SIZE);
+        return refusal_text(Refusal::Size);
     }
     let frame_count = head.frames as usize;
     let heap_size = head.pages as usize * PAGE_SIZE;
@@ -93,16 +103,15 @@ fn answer_image(input: &[u8], head: Head, out: &mut [u8]) -> usize
         &mut slots[..slot_count],
         &mut spare[..slot_count],
         &mut name,
-        out,
     )
 }
 
-// The runner's output for an input, at the start of `out`; its length.
-pub fn answer(input: &[u8], out: &mut [u8; LONGEST]) -> usize
-    ensures { WritesText out.old (answer_of input.now) out.new result }
+// The runner's output for an input.
+pub fn answer(input: &[u8]) -> Text
+    ensures { result.bytes ≡ answer_of input.now }
 {
     let Reading::Image(head) = text::read(input) else {
-        return report::put_refusal(out, 0, Refusal::TEXT);
+        return refusal_text(Refusal::Text);
     };
-    answer_image(input, head, out)
+    image_text(input, head)
 }

@@ -1,8 +1,7 @@
 -- What is written of a run, or of a reply. Definitions only.
-use Rattle.std.specs.Prelude.{ℕ, ◌≤◌, ◌≡◌, List, [], length}
-use Rattle.memory.specs.Lists.{over}
+use Rattle.std.specs.Prelude.{ℕ, List, []}
 use Rattle.report.specs.declared.Summary.{Summary}
-use Rattle.report.specs.Report.{report_of, longest, refusal_of}
+use Rattle.report.specs.Report.{report_of, refusal_of}
 use Rattle.vm.specs.declared.State.{State}
 use Rattle.vm.specs.Machine.{Answer, ended, value, done, refused, Called}
 
@@ -33,7 +32,3 @@ run_text done s = []
 
 abbrev pub answer_text : Called → List ℕ
 answer_text c = run_text c.answer c.machine.state
-
--- `after` begins with a text of r bytes, no longer than the longest report, and is else as `before` was
-abbrev pub WritesText : List ℕ → List ℕ → List ℕ → ℕ → Type 0
-WritesText before text after r = (r ≡ length text) × (after ≡ over text before) × (r ≤ longest)

@@ -23,7 +23,7 @@ use Rattle.image_words.specs.Said.{image_with}
 use Rattle.image_words.specs.Joined.{joined}
 use Rattle.image_words.proofs.Joins.{image-joined}
 use Rattle.image_names.specs.Named.{intern_all}
-use Rattle.outcome.specs.Outcome.{WritesText, reply_text, answer_text}
+use Rattle.outcome.specs.Outcome.{reply_text, answer_text}
 use Rattle.rating.specs.Rated.{ready_text, named_text, started_text}
 
 -- ---- the start
@@ -90,10 +90,6 @@ module _ (s : List ℕ) (h : Head) (base : ℕ) (l : Lent) (x : Started) (r : Re
 
     pub names_say : (im : Image) → im ≡ image_with g' s → (b : ℕ) → b ≡ h.budget → ready_text (said_of r') im b m' ≡ started_text s h x
     names_say im i b n = rw (i, n) (ap (named_text s h) entered ∙ named)
-
--- a text said in another way
-pub says_as : (before after : List ℕ) (r : ℕ) (t u : List ℕ) → t ≡ u → WritesText before t after r → WritesText before u after r
-says_as before after r t u e h = rw (← e) h
 
 -- ---- the text
 

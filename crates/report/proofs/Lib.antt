@@ -1,2 +1,2 @@
--- The laws of texts written one behind another.
+-- The laws of digits and of texts written one behind another.
 pub mod Texts

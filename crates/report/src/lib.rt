@@ -2,17 +2,24 @@
 // with a line feed.
 #![tactic(auto)]
 
-ghost use Rattle.std.specs.Prelude.{◌≡◌, ◌+◌, ◌*◌, ◌≤◌, ◌<◌, length};
-ghost use Rattle.memory.specs.Lists.{Written};
+ghost use Rattle.std.specs.Prelude.{◌≡◌, ◌+◌, ◌*◌, ◌≤◌, ◌<◌, ◌++◌, length};
+ghost use Rattle.arrayvec.specs.ArrayString.{array_string_len};
+ghost use Rattle.anomaly.specs.Table.{number_of_refusal};
 ghost use Rattle.report.specs.Hex.{digit_of_value, hex_of};
 ghost use Rattle.report.specs.Report.{line_feed, end_line, register_line, register_lines, state_line, report_of, longest, refusal_of};
 
-// The length of the longest report: 27 bytes of the first line, 19 for each of 32 registers, 21 of
-// the last line.
-pub const LONGEST: usize = 27 + 19 * 32 + 21;
+use anomaly::{Refusal, Steps};
+use arrayvec::ArrayString;
+use gc::PAGE_SIZE;
 
-// What a letter's byte is above its value.
-const LETTERS: u8 = b'a' - 10;
+// How many registers a report has a line for.
+pub const REGISTERS: usize = 32;
+
+// The length of the longest report: 27 bytes of the first line, 19 for each register, 21 of the last line.
+pub const LONGEST: usize = 27 + 19 * REGISTERS + 21;
+
+// A text with room for the longest report. It lies in the value itself: the runner allocates nothing.
+pub type Text = ArrayString<LONGEST>;
 
 // What a report shows beside the registers. `pushed` counts the bytes of pushed pages, `len`
 // is the length of the last page, `strings` the count of stored names.
@@ -20,7 +27,7 @@ const LETTERS: u8 = b'a' - 10;
 pub struct Summary {
     pub end: u64,
     pub pc: usize,
-    pub steps: u32,
+    pub steps: Steps,
     pub depth: usize,
     pub pushed: usize,
     pub len: usize,
@@ -28,106 +35,91 @@ pub struct Summary {
 }
 
 // The digit of a value below 16.
-fn digit(v: u64) -> u8
+fn digit(v: u64) -> char
     requires { v < 16 }
-    ensures { result ≡ digit_of_value v }
+    ensures value { result ≡ digit_of_value v }
+    ensures ascii { result < 128 }
 {
-    if v < 10 {
-        b'0' + v as u8
-    } else {
-        LETTERS + v as u8
-    }
+    char::from_digit(v as u32, 16).unwrap()
 }
 
-// The lowest `count` digits of `v`, written from `at` on; the place after them.
-fn put_hex(out: &mut [u8], at: usize, count: usize, v: u64) -> usize
-    requires { (count ≤ 16) × (at + count ≤ length out.old) }
-    ensures { Written out.old at (hex_of count v) out.new result × (result ≡ at + count) }
+// The lowest `count` digits of `v`. Not by a `Display`: no clause of std says that `write!` to a text with room is `Ok`, and `answer` cannot fail.
+fn put_hex(out: &mut Text, count: usize, v: u64)
+    requires digits { count ≤ 16 }
+    requires room { array_string_len out.old + count ≤ longest }
+    ensures bytes { out.new.bytes ≡ out.old.bytes ++ hex_of count v }
+    ensures len { array_string_len out.new ≡ array_string_len out.old + count }
 {
-    let mut left = count;
-    let mut i = at;
-    while 0 < left {
-        left -= 1;
-        out[i] = digit((v >> (4 * left)) % 16);
-        i += 1;
+    for i in (0..count).rev() {
+        out.push(digit((v >> (4 * i)) % 16));
     }
-    i
-}
-
-fn put_line_feed(out: &mut [u8], at: usize) -> usize
-    requires { at + 1 ≤ length out.old }
-    ensures { Written out.old at line_feed out.new result × (result ≡ at + 1) }
-{
-    out[at] = b'\n';
-    at + 1
 }
 
 // A register's line; nothing for one that is 0.
-fn put_register(out: &mut [u8], at: usize, number: usize, value: u64) -> usize
-    requires { at + 19 ≤ length out.old }
-    ensures { Written out.old at (register_line number value) out.new result × (result ≤ at + 19) }
+fn put_register(out: &mut Text, number: usize, value: u64)
+    requires { array_string_len out.old + 19 ≤ longest }
+    ensures bytes { out.new.bytes ≡ out.old.bytes ++ register_line number value }
+    ensures len { array_string_len out.new ≤ array_string_len out.old + 19 }
 {
-    if value == 0 {
-        return at;
+    if value != 0 {
+        put_hex(out, 2, number as u64);
+        put_hex(out, 16, value);
+        out.push('\n');
     }
-    let a = put_hex(out, at, 2, number as u64);
-    let b = put_hex(out, a, 16, value);
-    put_line_feed(out, b)
 }
 
-fn put_registers(out: &mut [u8], at: usize, regs: &[u64]) -> usize
-    requires { at + 19 * length regs.now ≤ length out.old }
-    ensures { Written out.old at (register_lines 0 regs.now) out.new result
-        × (result ≤ at + 19 * length regs.now) }
+fn put_registers(out: &mut Text, regs: &[u64; REGISTERS])
+    requires { array_string_len out.old + 19 * 32 ≤ longest }
+    ensures bytes { out.new.bytes ≡ out.old.bytes ++ register_lines 0 regs.now }
+    ensures len { array_string_len out.new ≤ array_string_len out.old + 19 * 32 }
 {
-    let mut i: usize = 0;
-    let mut place = at;
-    while i < regs.len() {
-        place = put_register(out, place, i, regs[i]);
-        i += 1;
+    for (number, &value) in regs.iter().enumerate() {
+        put_register(out, number, value);
     }
-    place
 }
 
 // The end's number, pc and steps.
-fn put_end(out: &mut [u8], at: usize, s: Summary) -> usize
-    requires { at + 27 ≤ length out.old }
-    ensures { Written out.old at (end_line s) out.new result × (result ≡ at + 27) }
+fn put_end(out: &mut Text, s: &Summary)
+    requires { array_string_len out.old + 27 ≤ longest }
+    ensures bytes { out.new.bytes ≡ out.old.bytes ++ end_line s.now }
+    ensures len { array_string_len out.new ≡ array_string_len out.old + 27 }
 {
-    let a = put_hex(out, at, 2, s.end);
-    let b = put_hex(out, a, 16, s.pc as u64);
-    let c = put_hex(out, b, 8, s.steps as u64);
-    put_line_feed(out, c)
+    put_hex(out, 2, s.end);
+    put_hex(out, 16, s.pc as u64);
+    put_hex(out, 8, u64::from(s.steps));
+    out.push('\n');
 }
 
 // Depth, pages, the last page's length and the strings.
-fn put_state(out: &mut [u8], at: usize, s: Summary) -> usize
-    requires { at + 21 ≤ length out.old }
-    ensures { Written out.old at (state_line s) out.new result × (result ≡ at + 21) }
+fn put_state(out: &mut Text, s: &Summary)
+    requires { array_string_len out.old + 21 ≤ longest }
+    ensures { out.new.bytes ≡ out.old.bytes ++ state_line s.now }
 {
-    let pages = s.pushed / gc::PAGE_SIZE;
-    let a = put_hex(out, at, 4, s.depth as u64);
-    let b = put_hex(out, a, 4, pages as u64);
-    let c = put_hex(out, b, 8, s.len as u64);
-    let d = put_hex(out, c, 4, s.strings as u64);
-    put_line_feed(out, d)
+    let pages = s.pushed / PAGE_SIZE;
+    put_hex(out, 4, s.depth as u64);
+    put_hex(out, 4, pages as u64);
+    put_hex(out, 8, s.len as u64);
+    put_hex(out, 4, s.strings as u64);
+    out.push('\n');
 }
 
-// The report of a run with its 32 registers, written from `at` on; the place after it.
-pub fn put_report(out: &mut [u8], at: usize, s: Summary, regs: &[u64]) -> usize
-    requires { (length regs.now ≡ 32) × (at + longest ≤ length out.old) }
-    ensures { Written out.old at (report_of s regs.now) out.new result × (result ≤ at + longest) }
+// The report of a run.
+pub fn report_text(s: &Summary, regs: &[u64; REGISTERS]) -> Text
+    ensures { result.bytes ≡ report_of s.now regs.now }
 {
-    let a = put_end(out, at, s);
-    let b = put_registers(out, a, regs);
-    put_state(out, b, s)
+    let mut text = Text::new();
+    put_end(&mut text, s);
+    put_registers(&mut text, regs);
+    put_state(&mut text, s);
+    text
 }
 
-// The number of a refusal alone, written from `at` on; the place after it.
-pub fn put_refusal(out: &mut [u8], at: usize, number: u64) -> usize
-    requires { at + 3 ≤ length out.old }
-    ensures { Written out.old at (refusal_of number) out.new result × (result ≡ at + 3) }
+// The number of a refusal alone.
+pub fn refusal_text(why: Refusal) -> Text
+    ensures { result.bytes ≡ refusal_of (number_of_refusal why) }
 {
-    let a = put_hex(out, at, 2, number);
-    put_line_feed(out, a)
+    let mut text = Text::new();
+    put_hex(&mut text, 2, why.number());
+    text.push('\n');
+    text
 }

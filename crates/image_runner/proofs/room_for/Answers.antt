@@ -1,16 +1,13 @@
 -- `image_runner::room_for` meets its contract. Assumes nothing.
-use mathlib.Core.Path.{refl}
+use Rattle.std.proofs.Common.{arith}
+use Rattle.std.proofs.lemmas.Bool.Decides.{nat_tests}
 use Rattle.image_runner.specs.Runner.{room_for}
 use Rattle.image_runner.proofs.room_for.Goals as goal
 
-pub returns : goal.returns
+pub returns-then-head-2 : goal.returns-then-head-2
 unfolding room_for
-returns c =
-    rw (
-      c.count-words.ensures,
-      c.count-globals.ensures,
-      c.count-switches.ensures,
-      c.count-targets.ensures,
-      c.count-lookups.ensures,
-      c.count-values.ensures,
-    ) refl
+returns-then-head-2 c = grind (arith, nat_tests)
+
+pub returns-else-head-2 : goal.returns-else-head-2
+unfolding room_for
+returns-else-head-2 c = grind (arith, nat_tests)

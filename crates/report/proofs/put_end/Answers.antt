@@ -1,13 +1,10 @@
 -- `report::put_end` meets its contract. Assumes nothing.
-use native.Mathlib.Omega.{arith}
-use Rattle.memory.proofs.Writes.{◌then◌}
+use Rattle.std.proofs.Common.{append_assoc, lit<}
 use Rattle.report.specs.Report.{end_line}
 use Rattle.report.proofs.put_end.Goals as goal
 
-pub returns : goal.returns
+pub returns-clause-bytes : goal.returns-clause-bytes
 unfolding end_line
-returns c = (
-  c.put_hex-a.ensures.0 then c.put_hex-b.ensures.0 then c.put_hex-c.ensures.0 then
-      c.put_line_feed.ensures.0,
-  omega arith,
-)
+returns-clause-bytes c =
+    rw (c.push.ensures.ascii (lit< tt), c.put_hex-3.ensures.bytes, c.from.ensures, c.put_hex-2.ensures.bytes, c.put_hex.ensures.bytes)
+    (simp append_assoc)

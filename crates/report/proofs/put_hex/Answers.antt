@@ -1,15 +1,18 @@
 -- `report::put_hex` meets its contract. Assumes nothing.
-use mathlib.Core.Path.{refl}
-use lib.ListN.{length-set}
-use Rattle.report.proofs.Texts.{digits-start, digits-next, digits-end}
+use Rattle.std.proofs.Common.{ap, length, length-append, arith, lit<}
+use Rattle.std.proofs.lemmas.Str.{encode_ascii}
+use Rattle.report.proofs.Texts.{hex_more, hex_all}
 use Rattle.report.proofs.put_hex.Goals as goal
 
-pub loop-left-init : goal.loop-left-init
-loop-left-init c = digits-start _ _ _ _
+pub push-requires : goal.push-requires
+push-requires c = rw (encode_ascii _ c.digit.ensures.ascii) (lit< tt, omega arith)
 
-pub loop-left-preserved : goal.loop-left-preserved
-loop-left-preserved c =
-    digits-next _ _ _ _ _ _ _ _ _ c.loop-left.invariant c.loop-left-test.true refl c.digit.ensures (simp length-set)
+pub loop-i-preserved : goal.loop-i-preserved
+loop-i-preserved c =
+    let pushed = c.push.ensures.ascii c.digit.ensures.ascii in (
+      hex_more _ _ _ _ _ _ (omega arith) c.loop-i.invariant.0 (rw c.digit.ensures.value at pushed),
+      omega (arith, simp length-append at (ap length pushed)),
+    )
 
-pub returns : goal.returns
-returns c = digits-end _ _ _ _ _ _ _ c.loop-left.invariant c.loop-left-test.false
+pub returns-clause-bytes : goal.returns-clause-bytes
+returns-clause-bytes c = hex_all _ _ _ _ _ (omega arith) c.loop-i.invariant.0

@@ -1,14 +1,11 @@
 -- `report::put_registers` meets its contract. Assumes nothing.
-use Rattle.report.proofs.Texts.{lines_start, lines_next, lines_end}
+use Rattle.std.proofs.Common.{arith}
+use Rattle.report.proofs.Texts.{line_more, lines_all}
 use Rattle.report.proofs.put_registers.Goals as goal
 
-pub loop-i-init : goal.loop-i-init
-loop-i-init c = lines_start _ _ _
+pub loop-number-preserved : goal.loop-number-preserved
+loop-number-preserved c =
+    (line_more _ _ _ _ _ (omega arith) c.loop-number.invariant.0 c.put_register.ensures.bytes, omega arith)
 
-pub loop-i-preserved : goal.loop-i-preserved
-loop-i-preserved c =
-    lines_next _ _ _ _ _ _ _ _ c.loop-i.invariant c.loop-i-test.true c.put_register-place.ensures.0
-    c.put_register-place.ensures.1 c.put_register-place.auto.out
-
-pub returns : goal.returns
-returns c = lines_end _ _ _ _ _ _ c.loop-i.invariant c.loop-i-test.false
+pub returns-clause-bytes : goal.returns-clause-bytes
+returns-clause-bytes c = lines_all _ _ _ _ (omega arith) c.loop-number.invariant.0

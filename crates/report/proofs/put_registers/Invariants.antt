@@ -1,11 +1,9 @@
--- `report::put_registers`: its loops. Assumes nothing.
-use Prim.Native.Nat.{◌-◌}
-use lib.ListN.{length}
-use Rattle.report.proofs.Texts.{Lines}
+-- `report::put_registers`: its loop. Assumes nothing.
+use Rattle.std.proofs.Common.{◌≡◌, ◌+◌, ◌*◌, ◌≤◌, ◌++◌, length, drop}
+use Rattle.report.specs.Report.{register_lines}
 use Rattle.report.proofs.put_registers.Given as goal
 
-abbrev pub invariant-loop-i : goal.invariant-loop-i
-invariant-loop-i l = Lines l.initial.out l.at l.regs l.i l.place l.out
-
-abbrev pub decreases-loop-i : goal.decreases-loop-i
-decreases-loop-i l = length l.regs - l.i
+abbrev pub invariant-loop-number : goal.invariant-loop-number
+invariant-loop-number l =
+    (l.out.bytes ++ register_lines l.number (drop l.number l.regs) ≡ l.initial.out.bytes ++ register_lines 0 l.regs)
+    × (length l.out.bytes ≤ length l.initial.out.bytes + 19 * l.number)

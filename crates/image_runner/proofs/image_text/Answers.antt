@@ -1,16 +1,14 @@
--- `image_runner::answer_image` meets its contract. Assumes nothing.
+-- `image_runner::image_text` meets its contract. Assumes nothing.
 use mathlib.Core.Path.{sym, ◌∙◌}
 use Prim.Native.Nat.{◌*◌}
 use native.Mathlib.Omega.{arith}
 use lib.ListN.{length-replicate}
 use Rattle.text.proofs.Numbers.{budget_small}
 use Rattle.image_runner.specs.Runner.{image_text}
-use Rattle.outcome.proofs.Texts.{refusal_says}
 use Rattle.image_runner.proofs.Limits.{Fits, fitting, words_room}
 use Rattle.image_runner.proofs.Parts.{words-part, zeros-part, lent_of_parts}
-use borrow.Author.Rules.{rules}
-use Rattle.image_runner.proofs.answer_image.Goals as goal
-use Rattle.image_runner.proofs.answer_image.Goals.{Else-not-room_for}
+use Rattle.image_runner.proofs.image_text.Goals as goal
+use Rattle.image_runner.proofs.image_text.Goals.{Else-not-room_for}
 
 room : (c : Else-not-room_for) → Fits c.args.head c.args.input.now
 room c = fitting _ _ (sym c.room_for.ensures ∙ c.if-not-room_for.false)
@@ -18,8 +16,7 @@ room c = fitting _ _ (sym c.room_for.ensures ∙ c.if-not-room_for.false)
 pub returns-then-not-room_for : goal.returns-then-not-room_for
 unfolding image_text
 returns-then-not-room_for c =
-    rw (sym c.room_for.ensures ∙ c.if-not-room_for.true)
-    (refusal_says 10 _ _ _ c.put_refusal.ensures.0 c.put_refusal.ensures.1)
+    rw (sym c.room_for.ensures ∙ c.if-not-room_for.true) c.refusal_text.ensures
 
 pub overflow_mul-heap_size : goal.overflow_mul-heap_size
 overflow_mul-heap_size c = omega (arith, (room c).pages)
@@ -59,17 +56,17 @@ slice_bounds-spare-end c = (zeros-part 4096 (room (goal.at.slice_bounds-spare-en
 pub slice_bounds-rate-end-5 : goal.slice_bounds-rate-end-5
 slice_bounds-rate-end-5 c = (zeros-part 4096 (room (goal.at.slice_bounds-rate-end-5 c).Else-not-room_for).slots).long
 
-pub rate-requires : goal.rate-requires
-rate-requires c =
-    let f = room (goal.at.rate-requires c).Else-not-room_for in (
-      c.requires.0,
-      search rules,
-      c.requires.2,
-      rw c.requires.1 (budget_small _),
-      c.join-total.ensures.1,
-      lent_of_parts c.args.head (zeros-part 4096 f.frames) (zeros-part {n = c.args.head.pages * 4096} 32768 (omega (arith, f.pages))) (zeros-part 4096 f.slots)
-          (zeros-part 4096 f.slots),
-    )
+pub rate-requires-clause-budget : goal.rate-requires-clause-budget
+rate-requires-clause-budget c = rw c.requires.head (budget_small _)
+
+pub rate-requires-clause-words : goal.rate-requires-clause-words
+rate-requires-clause-words c = c.join-total.ensures.1
+
+pub rate-requires-clause-lent : goal.rate-requires-clause-lent
+rate-requires-clause-lent c =
+    let f = room (goal.at.rate-requires-clause-lent c).Else-not-room_for in
+    lent_of_parts c.args.head (zeros-part 4096 f.frames) (zeros-part {n = c.args.head.pages * 4096} 32768 (omega (arith, f.pages)))
+    (zeros-part 4096 f.slots) (zeros-part 4096 f.slots)
 
 pub returns : goal.returns
 unfolding image_text

@@ -1,0 +1,93 @@
+// The records of a list of vectors.
+ghost use Rattle.std.specs.Prelude.{◌<◌, ◌≤◌, length, IfSome};
+
+use text::{all_digits, number};
+
+// Where a case's line has the two lengths and the name, and how many digits the lengths have.
+const IMAGE_AT: usize = 9;
+
+const IMAGE_DIGITS: usize = 5;
+
+const ANSWER_AT: usize = 15;
+
+const ANSWER_DIGITS: usize = 3;
+
+const NAME_AT: usize = 19;
+
+// Where an answer comes from.
+#[derive(Clone, Copy)]
+pub enum Source {
+    Rust,
+    Paper,
+}
+
+#[derive(Clone, Copy)]
+pub struct Case<'a> {
+    pub source: Source,
+    pub name: &'a [u8],
+    pub image: &'a [u8],
+    pub answer: &'a [u8],
+}
+
+#[derive(Clone, Copy)]
+pub enum Record<'a> {
+    Subject(&'a [u8]),
+    Case(Case<'a>),
+}
+
+// What lies before and behind a line feed.
+fn split_line(all: &[u8]) -> Option<(&[u8], &[u8])>
+    ensures { IfSome result (λ parts. length parts.1.now < length all.now) }
+{
+    let end = all.iter().position(|&byte| byte == b'\n')?;
+    Some((&all[..end], &all[end + 1..]))
+}
+
+// A length in hexadecimal digits.
+fn read_len(digits: &[u8]) -> Option<usize> {
+    (digits.len() <= 16 && all_digits(digits)).then(|| number(digits, 0, digits.len()) as usize)
+}
+
+// A case: its line, and what lies behind it.
+fn read_case<'a>(line: &'a [u8], behind: &'a [u8]) -> Option<(Case<'a>, &'a [u8])>
+    ensures { IfSome result (λ parts. length parts.1.now ≤ length behind.now) }
+{
+    if line.len() < NAME_AT {
+        return None;
+    }
+    let image_len = read_len(&line[IMAGE_AT..IMAGE_AT + IMAGE_DIGITS])?;
+    let answer_len = read_len(&line[ANSWER_AT..ANSWER_AT + ANSWER_DIGITS])?;
+    let (image, behind) = behind.split_at_checked(image_len)?;
+    let (answer, rest) = behind.split_at_checked(answer_len)?;
+    let source = if line[3] == b'r' {
+        Source::Rust
+    } else {
+        Source::Paper
+    };
+    let name = &line[NAME_AT..];
+    Some((
+        Case {
+            source,
+            name,
+            image,
+            answer,
+        },
+        rest,
+    ))
+}
+
+// The first record and what lies behind it, unless it is malformed.
+pub fn first(all: &[u8]) -> Option<(Record<'_>, &[u8])>
+    ensures { IfSome result (λ parts. length parts.1.now < length all.now) }
+{
+    let (line, behind) = split_line(all)?;
+    if line.starts_with(b"-- ") {
+        let (case, rest) = read_case(line, behind)?;
+        return Some((Record::Case(case), rest));
+    }
+    let name = line.strip_prefix(b"== ")?;
+    if name.is_empty() {
+        return None;
+    }
+    Some((Record::Subject(name), behind))
+}
