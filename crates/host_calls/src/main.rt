@@ -1,383 +1,282 @@
 // Each of the machine's calls, with a refused one of each number from 9 to 18 and the ends 0, 1, 5 and 8, printed: a label, and what was answered.
 #![tactic(auto)]
 
+ghost use Rattle.std.specs.Prelude.{◌≡◌, ◌+◌, length};
+
 use anomaly::{End, Steps};
-use run::Ran;
+use program::HEADER;
 use std::io;
 use vm::{Called, Opt, Reply, State, start};
 
 const BASE: u64 = 0x1_0000;
 
-// A call's reply; and the state, for the next call.
-fn said(rt: &impl Print, label: &[u8], called: Called) -> io::Result<State> {
-    rt.write_all(label)?;
-    let reply = called.reply;
+const HALT: u64 = 59;
+
+// What is lent to the calls of a machine.
+#[derive(Clone, Copy)]
+struct Lent {
+    frames: [u64; 4],
+    heap: [u8; 8192],
+    slots: [u64; 64],
+    spare: [u64; 64],
+}
+
+#[derive(Clone, Copy)]
+struct Machine {
+    state: State,
+    lent: Lent,
+}
+
+// An image of code alone: the nine ends of its sections are its length, and the code follows.
+fn image<const N: usize>(code: &[u64]) -> [u64; N]
+    requires { HEADER + length code.now ≡ N }
+{
+    let mut words = [N as u64; N];
+    let sections = &mut words[..];
+    sections[HEADER..].copy_from_slice(code);
+    words
+}
+
+fn print_reply(rt: &impl Print, label: &str, reply: Reply) -> io::Result<()> {
     match reply {
-        Reply::Value(v) => print!(rt; ": value {v:016x}")?,
-        Reply::Done => rt.write_all(b": done")?,
-        Reply::Refused(why) => {
-            let number = why.number();
-            print!(rt; ": refused {number:02x}")?
-        }
+        Reply::Value(v) => println!(rt; "{label}: value {v:016x}"),
+        Reply::Done => println!(rt; "{label}: done"),
+        Reply::Refused(why) => println!(rt; "{label}: refused {:02x}", why.number()),
     }
-    rt.write_all(b"\n")?;
-    Ok(called.state)
 }
 
-fn ended(rt: &impl Print, label: &[u8], ran: Ran) -> io::Result<State> {
-    rt.write_all(label)?;
-    let end = ran.end;
-    match end {
-        End::Refused(why) => {
-            let number = why.number();
-            println!(rt; ": refused {number:02x}")?;
-        }
-        End::Halt { .. } | End::Budget { .. } | End::Stopped(_) => {
-            let number = end.number();
-            let pc = end.pc() as u64;
-            let steps = end.steps() as u64;
-            println!(rt; ": end {number:02x} at {pc:016x} after {steps:08x}")?;
-        }
+fn print_end(rt: &impl Print, label: &str, end: End) -> io::Result<()> {
+    if let End::Refused(why) = end {
+        return println!(rt; "{label}: refused {:02x}", why.number());
     }
-    Ok(ran.state)
-}
-
-fn registers(rt: &impl Print, state: State) -> io::Result<()> {
-    let regs = state.regs;
-    let r0 = regs[0];
-    let r1 = regs[1];
-    let pc = state.pc as u64;
-    let depth = state.depth as u64;
-    println!(rt; "  r0 {r0:016x}, r1 {r1:016x}, pc {pc:016x}, depth {depth:04x}")
-}
-
-// An image is the ends of its nine sections, then the sections: here code alone, but for one table.
-fn run(
-    rt: &impl Print,
-    label: &[u8],
-    state: State,
-    budget: Steps,
-    image: &[u64],
-    frames: &mut [u64],
-    heap: &mut [u8],
-) -> io::Result<State> {
-    let ran = run::run(state, budget, image, frames, heap);
-    ended(rt, label, ran)
-}
-
-// LoadI r0, 7; IAddI r1, r0, -1; Halt
-fn runs(
-    rt: &impl Print,
-    state: State,
-    frames: &mut [u64; 4],
-    heap: &mut [u8; 8192],
-) -> io::Result<State> {
-    let code: [u64; 12] = [
-        12,
-        12,
-        12,
-        12,
-        12,
-        12,
-        12,
-        12,
-        12,
-        0x0000_0007_0000_001b,
-        0xffff_ffff_0000_0101,
-        59,
-    ];
-    let s = run(rt, b"run", state, 10, &code, frames, heap)?;
-    registers(rt, s)?;
-    let s = run(rt, b"run from the Halt on", s, 10, &code, frames, heap)?;
-    let s = run(
-        rt,
-        b"run with budget 0",
-        s.set_pc(0),
-        0,
-        &code,
-        frames,
-        heap,
-    )?;
-    let s = run(
-        rt,
-        b"run with budget 2",
-        s.set_register(0, 1).state,
-        2,
-        &code,
-        frames,
-        heap,
-    )?;
-    registers(rt, s)?;
-    // IDiv r1, r0, r2; Halt
-    let stops: [u64; 11] = [
-        11,
-        11,
-        11,
-        11,
-        11,
-        11,
-        11,
-        11,
-        11,
-        0x0000_0000_0200_0106,
-        59,
-    ];
-    let s = run(
-        rt,
-        b"run that divides by zero",
-        s.set_pc(0),
-        10,
-        &stops,
-        frames,
-        heap,
-    )?;
-    registers(rt, s)?;
-    let s = said(rt, b"reset", s.reset(frames))?;
-    registers(rt, s)?;
-    run(rt, b"run after reset", s, 10, &code, frames, heap)
-}
-
-// Ret; Halt, run twice from its beginning: from the root to the last Halt, which leaves depth 0; then at depth 0.
-fn returns(
-    rt: &impl Print,
-    state: State,
-    frames: &mut [u64; 4],
-    heap: &mut [u8; 8192],
-) -> io::Result<()> {
-    let code: [u64; 11] = [11, 11, 11, 11, 11, 11, 11, 11, 11, 57, 59];
-    let s = run(
-        rt,
-        b"run that returns from the root",
-        state.set_pc(0),
-        10,
-        &code,
-        frames,
-        heap,
-    )?;
-    registers(rt, s)?;
-    let s = run(
-        rt,
-        b"run that returns at depth 0",
-        s.set_pc(0),
-        10,
-        &code,
-        frames,
-        heap,
-    )?;
-    registers(rt, s)
-}
-
-// A run of one word and a Halt.
-fn run_word(
-    rt: &impl Print,
-    label: &[u8],
-    word: u64,
-    state: State,
-    frames: &mut [u64],
-    heap: &mut [u8],
-) -> io::Result<()> {
-    let code: [u64; 11] = [11, 11, 11, 11, 11, 11, 11, 11, 11, word, 59];
-    run(rt, label, state, 1, &code, frames, heap)?;
-    Ok(())
-}
-
-// A run with a table whose one target is place 1 of code that has no such place.
-fn run_table(
-    rt: &impl Print,
-    label: &[u8],
-    state: State,
-    frames: &mut [u64],
-    heap: &mut [u8],
-) -> io::Result<()> {
-    let image: [u64; 13] = [10, 10, 11, 12, 13, 13, 13, 13, 13, 59, 1, 1, 1];
-    run(rt, label, state, 1, &image, frames, heap)?;
-    Ok(())
-}
-
-// What a run refuses of state and buffers, then of the image, in the order of the numbers.
-fn refused_runs(
-    rt: &impl Print,
-    state: State,
-    frames: &mut [u64; 4],
-    heap: &mut [u8; 8192],
-) -> io::Result<()> {
-    let halt: [u64; 10] = [10, 10, 10, 10, 10, 10, 10, 10, 10, 59];
-    let nop: [u64; 10] = [10, 10, 10, 10, 10, 10, 10, 10, 10, 60];
-    let mut deep = state;
-    deep.depth = frames.len() + 1;
-    run(
-        rt,
-        b"run at a depth above the frames",
-        deep,
-        1,
-        &halt,
-        frames,
-        heap,
-    )?;
-    run(rt, b"run with no heap", state, 1, &halt, frames, &mut [])?;
-    run(
-        rt,
-        b"run of code without a Halt",
-        state,
-        1,
-        &nop,
-        frames,
-        heap,
-    )?;
-    run_word(
-        rt,
-        b"run of an opcode that is not carried",
-        42,
-        state,
-        frames,
-        heap,
-    )?;
-    run_word(
-        rt,
-        b"run of a word with register 32",
-        0x201a,
-        state,
-        frames,
-        heap,
-    )?;
-    run_word(
-        rt,
-        b"run of a jump past the code",
-        0x0002_001d,
-        state,
-        frames,
-        heap,
-    )?;
-    run_word(
-        rt,
-        b"run of a global that is not there",
-        0x1c,
-        state,
-        frames,
-        heap,
-    )?;
-    run_table(
-        rt,
-        b"run with a table's target past the code",
-        state,
-        frames,
-        heap,
-    )
-}
-
-fn blocks(rt: &impl Print, state: State, heap: &mut [u8; 8192]) -> io::Result<State> {
-    let s = said(rt, b"allocate 40 bytes", state.allocate(1, 8, 40, heap))?;
-    let s = said(
-        rt,
-        b"allocate with an alignment of 3",
-        s.allocate(1, 3, 40, heap),
-    )?;
-    let s = said(
-        rt,
-        b"allocate 2^20 bytes",
-        s.allocate(1, 8, 0x10_0000, heap),
-    )?;
-    let s = said(rt, b"option of 5", s.new_option(Opt::Some(5), heap))?;
-    said(rt, b"option of none", s.new_option(Opt::None, heap))
-}
-
-fn names(
-    rt: &impl Print,
-    state: State,
-    heap: &mut [u8; 8192],
-    slots: &mut [u64; 64],
-    spare: &mut [u64; 64],
-) -> io::Result<State> {
-    let s = said(
-        rt,
-        b"intern nothing",
-        names::intern(state, b"", heap, slots, spare),
-    )?;
-    let s = said(
-        rt,
-        b"intern gold",
-        names::intern(s, b"gold", heap, slots, spare),
-    )?;
-    let s = said(
-        rt,
-        b"intern gold again",
-        names::intern(s, b"gold", heap, slots, spare),
-    )?;
-    let s = said(
-        rt,
-        b"intern gold as a word",
-        names::intern_small(s, 4, 0x646c_6f67, heap, slots, spare),
-    )?;
-    said(
-        rt,
-        b"intern 9 bytes as a word",
-        names::intern_small(s, 9, 0, heap, slots, spare),
-    )
-}
-
-// 30 names more, and one that 64 slots have no room for.
-fn many_names(
-    rt: &impl Print,
-    state: State,
-    heap: &mut [u8; 8192],
-    slots: &mut [u64; 64],
-    spare: &mut [u64; 64],
-) -> io::Result<State> {
-    let mut s = state;
-    let mut i: u64 = 1;
-    while i < 31 {
-        s = names::intern_small(s, 1, i, heap, slots, spare).state;
-        i += 1;
-    }
-    said(
-        rt,
-        b"intern the 32nd name",
-        names::intern_small(s, 1, 30, heap, slots, spare),
-    )?;
-    said(
-        rt,
-        b"intern the 33rd name",
-        names::intern_small(s, 1, 31, heap, slots, spare),
+    println!(rt;
+        "{label}: end {:02x} at {:016x} after {:08x}",
+        end.number(),
+        end.pc(),
+        end.steps()
     )
 }
 
 // A start on a lone Halt.
-fn begin(
-    rt: &impl Print,
-    label: &[u8],
-    base: u64,
-    frames: &mut [u64],
-    heap: &mut [u8],
-    slots: &[u64],
-    spare: &[u64],
-) -> io::Result<State> {
-    let halt: [u64; 10] = [10, 10, 10, 10, 10, 10, 10, 10, 10, 59];
-    let called = start::start(base, &halt, frames, heap, slots, spare);
-    said(rt, label, called)
+fn start(rt: &impl Print, label: &str, base: u64, lent: &mut Lent) -> io::Result<State> {
+    let halt: [u64; 10] = image(&[HALT]);
+    let called = start::start(
+        base,
+        &halt,
+        &mut lent.frames,
+        &mut lent.heap,
+        &lent.slots,
+        &lent.spare,
+    );
+    print_reply(rt, label, called.reply)?;
+    Ok(called.state)
+}
+
+impl Machine {
+    // What a call answered is printed, and the state is that after it.
+    fn answered(&mut self, rt: &impl Print, label: &str, called: Called) -> io::Result<()> {
+        self.state = called.state;
+        print_reply(rt, label, called.reply)
+    }
+
+    fn run(
+        &mut self,
+        rt: &impl Print,
+        label: &str,
+        budget: Steps,
+        image: &[u64],
+    ) -> io::Result<()> {
+        let ran = run::run(
+            self.state,
+            budget,
+            image,
+            &mut self.lent.frames,
+            &mut self.lent.heap,
+        );
+        self.state = ran.state;
+        print_end(rt, label, ran.end)
+    }
+
+    // A run of one word and a Halt.
+    fn run_word(&mut self, rt: &impl Print, label: &str, word: u64) -> io::Result<()> {
+        let code: [u64; 11] = image(&[word, HALT]);
+        self.run(rt, label, 1, &code)
+    }
+
+    fn print_registers(&self, rt: &impl Print) -> io::Result<()> {
+        let State {
+            regs,
+            pc,
+            depth,
+            ..
+        } = self.state;
+        println!(rt;
+            "  r0 {:016x}, r1 {:016x}, pc {pc:016x}, depth {depth:04x}",
+            regs[0], regs[1]
+        )
+    }
+
+    fn intern(&mut self, rt: &impl Print, label: &str, name: &[u8]) -> io::Result<()> {
+        let called = names::intern(
+            self.state,
+            name,
+            &mut self.lent.heap,
+            &mut self.lent.slots,
+            &mut self.lent.spare,
+        );
+        self.answered(rt, label, called)
+    }
+
+    fn intern_small(
+        &mut self,
+        rt: &impl Print,
+        label: &str,
+        len: usize,
+        word: u64,
+    ) -> io::Result<()> {
+        let called = names::intern_small(
+            self.state,
+            len,
+            word,
+            &mut self.lent.heap,
+            &mut self.lent.slots,
+            &mut self.lent.spare,
+        );
+        self.answered(rt, label, called)
+    }
+
+    fn allocate(
+        &mut self,
+        rt: &impl Print,
+        label: &str,
+        align: usize,
+        size: u64,
+    ) -> io::Result<()> {
+        let called = self.state.allocate(1, align, size, &mut self.lent.heap);
+        self.answered(rt, label, called)
+    }
+
+    fn new_option(&mut self, rt: &impl Print, label: &str, value: Opt) -> io::Result<()> {
+        let called = self.state.new_option(value, &mut self.lent.heap);
+        self.answered(rt, label, called)
+    }
+
+    fn set_register(&mut self, rt: &impl Print, label: &str, register: usize) -> io::Result<()> {
+        let called = self.state.set_register(register, 1);
+        self.answered(rt, label, called)
+    }
+
+    fn reset(&mut self, rt: &impl Print) -> io::Result<()> {
+        let called = self.state.reset(&mut self.lent.frames);
+        self.answered(rt, "reset", called)
+    }
+}
+
+// LoadI r0, 7; IAddI r1, r0, -1; Halt
+fn runs(rt: &impl Print, machine: &mut Machine) -> io::Result<()> {
+    let code: [u64; 12] = image(&[0x0000_0007_0000_001b, 0xffff_ffff_0000_0101, HALT]);
+    machine.run(rt, "run", 10, &code)?;
+    machine.print_registers(rt)?;
+    machine.run(rt, "run from the Halt on", 10, &code)?;
+    machine.state = machine.state.set_pc(0);
+    machine.run(rt, "run with budget 0", 0, &code)?;
+    machine.state = machine.state.set_register(0, 1).state;
+    machine.run(rt, "run with budget 2", 2, &code)?;
+    machine.print_registers(rt)?;
+    machine.state = machine.state.set_pc(0);
+    // IDiv r1, r0, r2; Halt
+    let stops: [u64; 11] = image(&[0x0000_0000_0200_0106, HALT]);
+    machine.run(rt, "run that divides by zero", 10, &stops)?;
+    machine.print_registers(rt)?;
+    machine.reset(rt)?;
+    machine.print_registers(rt)?;
+    machine.run(rt, "run after reset", 10, &code)
+}
+
+// Ret; Halt, run twice from its beginning: from the root to the last Halt, which leaves depth 0; then at depth 0.
+fn returns(rt: &impl Print, machine: &mut Machine) -> io::Result<()> {
+    let before = machine.state;
+    let code: [u64; 11] = image(&[57, HALT]);
+    machine.state = machine.state.set_pc(0);
+    machine.run(rt, "run that returns from the root", 10, &code)?;
+    machine.print_registers(rt)?;
+    machine.state = machine.state.set_pc(0);
+    machine.run(rt, "run that returns at depth 0", 10, &code)?;
+    machine.print_registers(rt)?;
+    // what follows goes on from the state before
+    machine.state = before;
+    Ok(())
+}
+
+// What a run refuses of state and buffers, then of the image, in the order of the numbers.
+fn refused_runs(rt: &impl Print, machine: &mut Machine) -> io::Result<()> {
+    let halt: [u64; 10] = image(&[HALT]);
+    let nop: [u64; 10] = image(&[60]);
+    // one table, whose one target is place 1 of code that has no such place
+    let table: [u64; 13] = [10, 10, 11, 12, 13, 13, 13, 13, 13, HALT, 1, 1, 1];
+    let depth = machine.state.depth;
+    machine.state.depth = machine.lent.frames.len() + 1;
+    machine.run(rt, "run at a depth above the frames", 1, &halt)?;
+    machine.state.depth = depth;
+    let ran = run::run(machine.state, 1, &halt, &mut machine.lent.frames, &mut []);
+    print_end(rt, "run with no heap", ran.end)?;
+    machine.run(rt, "run of code without a Halt", 1, &nop)?;
+    machine.run_word(rt, "run of an opcode that is not carried", 42)?;
+    machine.run_word(rt, "run of a word with register 32", 0x201a)?;
+    machine.run_word(rt, "run of a jump past the code", 0x0002_001d)?;
+    machine.run_word(rt, "run of a global that is not there", 0x1c)?;
+    machine.run(rt, "run with a table's target past the code", 1, &table)
+}
+
+fn blocks(rt: &impl Print, machine: &mut Machine) -> io::Result<()> {
+    machine.allocate(rt, "allocate 40 bytes", 8, 40)?;
+    machine.allocate(rt, "allocate with an alignment of 3", 3, 40)?;
+    machine.allocate(rt, "allocate 2^20 bytes", 8, 0x10_0000)?;
+    machine.new_option(rt, "option of 5", Opt::Some(5))?;
+    machine.new_option(rt, "option of none", Opt::None)
+}
+
+fn names(rt: &impl Print, machine: &mut Machine) -> io::Result<()> {
+    machine.intern(rt, "intern nothing", b"")?;
+    machine.intern(rt, "intern gold", b"gold")?;
+    machine.intern(rt, "intern gold again", b"gold")?;
+    machine.intern_small(rt, "intern gold as a word", 4, 0x646c_6f67)?;
+    machine.intern_small(rt, "intern 9 bytes as a word", 9, 0)
+}
+
+// 30 names more, and one that 64 slots have no room for.
+fn many_names(rt: &impl Print, machine: &mut Machine) -> io::Result<()> {
+    for word in 1..31 {
+        let called = names::intern_small(
+            machine.state,
+            1,
+            word,
+            &mut machine.lent.heap,
+            &mut machine.lent.slots,
+            &mut machine.lent.spare,
+        );
+        machine.state = called.state;
+    }
+    machine.intern_small(rt, "intern the 32nd name", 1, 30)?;
+    machine.intern_small(rt, "intern the 33rd name", 1, 31)
 }
 
 fn main(rt: HostRuntime) -> io::Result<()> {
-    let mut frames = [0u64; 4];
-    let mut heap = [0u8; 8192];
-    let mut slots = [0u64; 64];
-    let mut spare = [0u64; 64];
-    begin(
-        &rt,
-        b"start at no page's address",
-        100,
-        &mut frames,
-        &mut heap,
-        &slots,
-        &spare,
-    )?;
-    let s = begin(&rt, b"start", BASE, &mut frames, &mut heap, &slots, &spare)?;
-    registers(&rt, s)?;
-    let s = said(&rt, b"set register 32", s.set_register(32, 1))?;
-    let s = runs(&rt, s, &mut frames, &mut heap)?;
-    returns(&rt, s, &mut frames, &mut heap)?;
-    refused_runs(&rt, s, &mut frames, &mut heap)?;
-    let s = blocks(&rt, s, &mut heap)?;
-    let s = names(&rt, s, &mut heap, &mut slots, &mut spare)?;
-    many_names(&rt, s, &mut heap, &mut slots, &mut spare)?;
-    Ok(())
+    let mut lent = Lent {
+        frames: [0; 4],
+        heap: [0; 8192],
+        slots: [0; 64],
+        spare: [0; 64],
+    };
+    start(&rt, "start at no page's address", 100, &mut lent)?;
+    let state = start(&rt, "start", BASE, &mut lent)?;
+    let mut machine = Machine { state, lent };
+    machine.print_registers(&rt)?;
+    machine.set_register(&rt, "set register 32", 32)?;
+    runs(&rt, &mut machine)?;
+    returns(&rt, &mut machine)?;
+    refused_runs(&rt, &mut machine)?;
+    blocks(&rt, &mut machine)?;
+    names(&rt, &mut machine)?;
+    many_names(&rt, &mut machine)
 }

@@ -1,41 +1,32 @@
 // Known answers of the crates below the machine, printed: a label, a number in hexadecimal.
 #![tactic(auto)]
 
-ghost use Rattle.std.specs.Prelude.{◌≡◌, length};
-
 use gc::{AllocType, Gc, Metadata};
 use std::io;
 use str_table::{Probe, StrTable};
-use value::Value;
+use string::fxhash::{hash, small_hash};
+use string::payload::write_payload;
 use value::int::Divided;
+use value::{Value, double, int};
 
-fn line(rt: &impl Print, label: &[u8], n: u64) -> io::Result<()> {
-    rt.write_all(label)?;
-    println!(rt; " {n:016x}")
+fn lines(rt: &impl Print, rows: &[(&str, u64)]) -> io::Result<()> {
+    for (label, n) in rows {
+        println!(rt; "{label} {n:016x}")?;
+    }
+    Ok(())
 }
 
 fn hashes(rt: &impl Print) -> io::Result<()> {
-    line(rt, b"hash of nothing", string::fxhash::hash(b"") as u64)?;
-    line(rt, b"hash of a", string::fxhash::hash(b"a") as u64)?;
-    line(
+    lines(
         rt,
-        b"hash of abcdefgh",
-        string::fxhash::hash(b"abcdefgh") as u64,
-    )?;
-    line(
-        rt,
-        b"hash of 0123456789",
-        string::fxhash::hash(b"0123456789") as u64,
-    )?;
-    line(
-        rt,
-        b"small hash of nothing",
-        string::fxhash::small_hash(0, 0) as u64,
-    )?;
-    line(
-        rt,
-        b"small hash of a",
-        string::fxhash::small_hash(1, 97) as u64,
+        &[
+            ("hash of nothing", u64::from(hash(b""))),
+            ("hash of a", u64::from(hash(b"a"))),
+            ("hash of abcdefgh", u64::from(hash(b"abcdefgh"))),
+            ("hash of 0123456789", u64::from(hash(b"0123456789"))),
+            ("small hash of nothing", u64::from(small_hash(0, 0))),
+            ("small hash of a", u64::from(small_hash(1, 97))),
+        ],
     )
 }
 
@@ -51,55 +42,45 @@ fn shown(d: Divided) -> u64 {
 fn divisions(rt: &impl Print) -> io::Result<()> {
     let minus_seven = Value::from_int(-7).0;
     let least = 0x8000_0000_0000_0000;
-    line(rt, b"-7 by 2", shown(value::int::div(minus_seven, 2)))?;
-    line(rt, b"-7 by 2, rest", shown(value::int::rem(minus_seven, 2)))?;
-    line(rt, b"7 by 0", shown(value::int::div(7, 0)))?;
-    line(rt, b"-2^63 by -1", shown(value::int::div(least, u64::MAX)))?;
-    line(
+    lines(
         rt,
-        b"(2^63 + 1) squared",
-        value::int::wrapping_mul(least + 1, least + 1),
+        &[
+            ("-7 by 2", shown(int::div(minus_seven, 2))),
+            ("-7 by 2, rest", shown(int::rem(minus_seven, 2))),
+            ("7 by 0", shown(int::div(7, 0))),
+            ("-2^63 by -1", shown(int::div(least, u64::MAX))),
+            (
+                "(2^63 + 1) squared",
+                int::wrapping_mul(least + 1, least + 1),
+            ),
+        ],
     )
 }
 
 fn casts(rt: &impl Print) -> io::Result<()> {
-    line(
+    lines(
         rt,
-        b"2^53 + 1 to double",
-        Value(0x20_0000_0000_0001).int_to_f64().0,
-    )?;
-    line(
-        rt,
-        b"2^53 + 3 to double",
-        Value(0x20_0000_0000_0003).int_to_f64().0,
-    )?;
-    line(rt, b"NaN to int", Value::NAN.f64_to_int().0)?;
-    line(
-        rt,
-        b"-0.5 to int",
-        Value(0xbfe0_0000_0000_0000).f64_to_int().0,
-    )?;
-    line(
-        rt,
-        b"2^63 to int",
-        Value(0x43e0_0000_0000_0000).f64_to_int().0,
-    )?;
-    line(
-        rt,
-        b"-2^63 to int",
-        Value(0xc3e0_0000_0000_0000).f64_to_int().0,
-    )?;
-    line(
-        rt,
-        b"-0.0 to bool",
-        Value(0x8000_0000_0000_0000).int_to_bool().0,
-    )?;
-    line(
-        rt,
-        b"0.1 + 0.2",
-        value::double::add(0x3fb9_9999_9999_999a, 0x3fc9_9999_9999_999a),
-    )?;
-    line(rt, b"0.0 / 0.0", value::double::div(0, 0))
+        &[
+            (
+                "2^53 + 1 to double",
+                Value(0x20_0000_0000_0001).int_to_f64().0,
+            ),
+            (
+                "2^53 + 3 to double",
+                Value(0x20_0000_0000_0003).int_to_f64().0,
+            ),
+            ("NaN to int", Value::NAN.f64_to_int().0),
+            ("-0.5 to int", Value(0xbfe0_0000_0000_0000).f64_to_int().0),
+            ("2^63 to int", Value(0x43e0_0000_0000_0000).f64_to_int().0),
+            ("-2^63 to int", Value(0xc3e0_0000_0000_0000).f64_to_int().0),
+            ("-0.0 to bool", Value(0x8000_0000_0000_0000).int_to_bool().0),
+            (
+                "0.1 + 0.2",
+                double::add(0x3fb9_9999_9999_999a, 0x3fc9_9999_9999_999a),
+            ),
+            ("0.0 / 0.0", double::div(0, 0)),
+        ],
+    )
 }
 
 // The address of a block in a heap of two pages, of which one is pushed and has 32 bytes in use; or 2.
@@ -116,38 +97,43 @@ fn block(size: u64) -> u64 {
 }
 
 fn blocks(rt: &impl Print) -> io::Result<()> {
-    line(rt, b"block of 4048", block(4048))?;
-    line(rt, b"block of 4049", block(4049))?;
-    line(rt, b"block of 4073", block(4073))?;
-    line(rt, b"block of 2^64 - 1", block(u64::MAX))
+    lines(
+        rt,
+        &[
+            ("block of 4048", block(4048)),
+            ("block of 4049", block(4049)),
+            ("block of 4073", block(4073)),
+            ("block of 2^64 - 1", block(u64::MAX)),
+        ],
+    )
 }
 
 // The value of the name `s` where `a` is stored at 65,584 and nothing else; or 0.
-fn found(heap: &mut [u8], slots: &mut [u64], spare: &mut [u64], s: &[u8]) -> u64
-    requires { (length heap.old ≡ 4096) × (length slots.old ≡ 64) × (length spare.old ≡ 64) }
-{
+#[tactic(auto, unfolding(str_table::specs::Grow::room_of))]
+fn found(s: &[u8]) -> u64 {
     let base = 65536;
-    let hash = string::fxhash::hash(b"a");
-    string::payload::write_payload(&mut heap[48..], b"a", hash);
+    let mut heap = [0u8; 4096];
+    let mut slots = [0u64; 64];
+    let mut spare = [0u64; 64];
+    let stored = hash(b"a");
+    write_payload(&mut heap[48..], b"a", stored);
     let t = StrTable { active: 0, len: 0 };
-    t.insert(base, heap, hash, 65584, slots, spare);
-    match str_table::get(base, heap, slots, s, string::fxhash::hash(s)) {
+    t.insert(base, &heap, stored, 65584, &mut slots, &mut spare);
+    match str_table::get(base, &heap, &slots, s, hash(s)) {
         Probe::Found(v) => v,
         Probe::Vacant(_) | Probe::Full => 0,
     }
 }
 
-fn name(rt: &impl Print, label: &[u8], s: &[u8]) -> io::Result<()> {
-    let mut heap = [0u8; 4096];
-    let mut slots = [0u64; 64];
-    let mut spare = [0u64; 64];
-    line(rt, label, found(&mut heap, &mut slots, &mut spare, s))
-}
-
 fn names(rt: &impl Print) -> io::Result<()> {
-    name(rt, b"a is at", b"a")?;
-    name(rt, b"b is at", b"b")?;
-    name(rt, b"aa is at", b"aa")
+    lines(
+        rt,
+        &[
+            ("a is at", found(b"a")),
+            ("b is at", found(b"b")),
+            ("aa is at", found(b"aa")),
+        ],
+    )
 }
 
 // 0 for an instruction, or the refusal's number.
@@ -156,12 +142,17 @@ fn decoded(w: u64) -> u64 {
 }
 
 fn words(rt: &impl Print) -> io::Result<()> {
-    line(rt, b"LoadI r0, 7", decoded(0x0000_0007_0000_001b))?;
-    line(rt, b"Halt", decoded(0x0000_0000_0000_003b))?;
-    line(rt, b"Sys", decoded(0x0000_0000_0000_0028))?;
-    line(rt, b"Halt with a byte set", decoded(0x0000_0000_0000_013b))?;
-    line(rt, b"register 32", decoded(0x0000_0000_0000_2000))?;
-    line(rt, b"an align of 16", decoded(0x0000_0020_1003_0435))
+    lines(
+        rt,
+        &[
+            ("LoadI r0, 7", decoded(0x0000_0007_0000_001b)),
+            ("Halt", decoded(0x0000_0000_0000_003b)),
+            ("Sys", decoded(0x0000_0000_0000_0028)),
+            ("Halt with a byte set", decoded(0x0000_0000_0000_013b)),
+            ("register 32", decoded(0x0000_0000_0000_2000)),
+            ("an align of 16", decoded(0x0000_0020_1003_0435)),
+        ],
+    )
 }
 
 fn main(rt: HostRuntime) -> io::Result<()> {
