@@ -6,7 +6,7 @@ use lib.ListN.{length-replicate}
 use Rattle.text.proofs.Numbers.{budget_small}
 use Rattle.image_runner.specs.Runner.{image_text}
 use Rattle.image_runner.proofs.Limits.{Fits, fitting, words_room}
-use Rattle.image_runner.proofs.Parts.{words-part, zeros-part, lent_of_parts}
+use Rattle.image_runner.proofs.Parts.{zeros-part, lent_of_parts}
 use Rattle.image_runner.proofs.image_text.Goals as goal
 use Rattle.image_runner.proofs.image_text.Goals.{Else-not-room_for}
 
@@ -23,12 +23,6 @@ overflow_mul-heap_size c = omega (arith, (room c).pages)
 
 pub join-total-requires : goal.join-total-requires
 join-total-requires c = rw length-replicate (words_room _ _ (room (goal.at.join-total-requires c).Else-not-room_for))
-
-pub slice_bounds-words-end : goal.slice_bounds-words-end
-slice_bounds-words-end c = (words-part c.join-total.ensures.0 c.join-total.ensures.1).inside
-
-pub slice_bounds-rate-end : goal.slice_bounds-rate-end
-slice_bounds-rate-end c = (words-part c.join-total.ensures.0 c.join-total.ensures.1).long
 
 pub slice_bounds-frames-end : goal.slice_bounds-frames-end
 slice_bounds-frames-end c = (zeros-part 4096 (room (goal.at.slice_bounds-frames-end c).Else-not-room_for).frames).inside
@@ -58,9 +52,6 @@ slice_bounds-rate-end-5 c = (zeros-part 4096 (room (goal.at.slice_bounds-rate-en
 
 pub rate-requires-clause-budget : goal.rate-requires-clause-budget
 rate-requires-clause-budget c = rw c.requires.head (budget_small _)
-
-pub rate-requires-clause-words : goal.rate-requires-clause-words
-rate-requires-clause-words c = c.join-total.ensures.1
 
 pub rate-requires-clause-lent : goal.rate-requires-clause-lent
 rate-requires-clause-lent c =
