@@ -1,5 +1,6 @@
 -- Document 01, 'Ends and numbers': the number of each end and refusal, and what is returned with it. Definitions only.
-use Rattle.std.specs.Prelude.{ℕ, Bool, ◌&&◌, ◌||◌, eqb, leb}
+use Rattle.std.specs.Prelude.{ℕ, Bool, false, ◌≡◌, ◌&&◌, ◌||◌, eqb, leb, Result, MatchResult}
+use Rattle.anomaly.specs.declared.Unlisted.{Unlisted}
 use Rattle.anomaly.specs.declared.Anomaly.{Anomaly}
 use Rattle.anomaly.specs.declared.Anomaly.TheVariants.{DivisionByZero, AllocationFailed, StackOverflow, AssertionFailed, BadAddress}
 use Rattle.anomaly.specs.declared.Anomaly.TheVariants.{QuotientOverflow, FrameUnderflow}
@@ -12,31 +13,13 @@ use Rattle.anomaly.specs.declared.End.TheVariants.{Halt, Budget, Stopped, Refuse
 -- the ends that leave the state from before an instruction: zero divisor, allocation refused, depth equals frames, false Assert,
 -- address, quotient overflow, Ret at depth 0
 abbrev pub number_of_anomaly : Anomaly → ℕ
-number_of_anomaly (DivisionByZero pc steps) = 1
-number_of_anomaly (AllocationFailed pc steps) = 2
-number_of_anomaly (StackOverflow pc steps) = 3
-number_of_anomaly (AssertionFailed pc steps) = 4
-number_of_anomaly (BadAddress pc steps) = 6
-number_of_anomaly (QuotientOverflow pc steps) = 7
-number_of_anomaly (FrameUnderflow pc steps) = 8
-
-abbrev pub pc_of_anomaly : Anomaly → ℕ
-pc_of_anomaly (DivisionByZero pc steps) = pc
-pc_of_anomaly (AllocationFailed pc steps) = pc
-pc_of_anomaly (StackOverflow pc steps) = pc
-pc_of_anomaly (AssertionFailed pc steps) = pc
-pc_of_anomaly (BadAddress pc steps) = pc
-pc_of_anomaly (QuotientOverflow pc steps) = pc
-pc_of_anomaly (FrameUnderflow pc steps) = pc
-
-abbrev pub steps_of_anomaly : Anomaly → ℕ
-steps_of_anomaly (DivisionByZero pc steps) = steps
-steps_of_anomaly (AllocationFailed pc steps) = steps
-steps_of_anomaly (StackOverflow pc steps) = steps
-steps_of_anomaly (AssertionFailed pc steps) = steps
-steps_of_anomaly (BadAddress pc steps) = steps
-steps_of_anomaly (QuotientOverflow pc steps) = steps
-steps_of_anomaly (FrameUnderflow pc steps) = steps
+number_of_anomaly DivisionByZero = 1
+number_of_anomaly AllocationFailed = 2
+number_of_anomaly StackOverflow = 3
+number_of_anomaly AssertionFailed = 4
+number_of_anomaly BadAddress = 6
+number_of_anomaly QuotientOverflow = 7
+number_of_anomaly FrameUnderflow = 8
 
 -- the numbers of anomalies: 1 to 4 and 6 to 8
 abbrev pub is_anomaly : ℕ → Bool
@@ -61,22 +44,29 @@ number_of_refusal Text = 19
 abbrev pub is_refusal : ℕ → Bool
 is_refusal n = eqb n 2 || (leb 9 n && leb n 19)
 
+-- the anomaly, or the refusal, that has this number; or that none has it
+abbrev pub NumbersAnomaly : ℕ → Result Anomaly Unlisted → Type 0
+NumbersAnomaly n r = MatchResult r (λ why. number_of_anomaly why ≡ n) (λ e. (e.0 ≡ n) × (is_anomaly n ≡ false))
+
+abbrev pub NumbersRefusal : ℕ → Result Refusal Unlisted → Type 0
+NumbersRefusal n r = MatchResult r (λ why. number_of_refusal why ≡ n) (λ e. (e.0 ≡ n) × (is_refusal n ≡ false))
+
 -- Halt, or nothing to run, is 0; budget completed, not halted, is 5
 abbrev pub number_of_end : End → ℕ
 number_of_end (Halt pc steps) = 0
 number_of_end (Budget pc steps) = 5
-number_of_end (Stopped why) = number_of_anomaly why
+number_of_end (Stopped why pc steps) = number_of_anomaly why
 number_of_end (Refused why) = number_of_refusal why
 
 -- pc and steps of an end; a refused call has neither, and 0 stands for both
 abbrev pub pc_of_end : End → ℕ
 pc_of_end (Halt pc steps) = pc
 pc_of_end (Budget pc steps) = pc
-pc_of_end (Stopped why) = pc_of_anomaly why
+pc_of_end (Stopped why pc steps) = pc
 pc_of_end (Refused why) = 0
 
 abbrev pub steps_of_end : End → ℕ
 steps_of_end (Halt pc steps) = steps
 steps_of_end (Budget pc steps) = steps
-steps_of_end (Stopped why) = steps_of_anomaly why
+steps_of_end (Stopped why pc steps) = steps
 steps_of_end (Refused why) = 0

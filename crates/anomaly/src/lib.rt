@@ -2,28 +2,32 @@
 // the constants below, and the definitions of specs/Table.antt.
 #![tactic(auto)]
 
-ghost use Rattle.std.specs.Prelude.{◌≡◌, true};
-ghost use Rattle.anomaly.specs.Table.{number_of_anomaly, pc_of_anomaly, steps_of_anomaly, is_anomaly};
-ghost use Rattle.anomaly.specs.Table.{number_of_refusal, is_refusal};
-ghost use Rattle.anomaly.specs.Table.{number_of_end, pc_of_end, steps_of_end};
+ghost use Rattle.std.specs.Prelude.{◌≡◌};
+ghost use Rattle.anomaly.specs.Table.{number_of_anomaly, number_of_refusal, number_of_end, pc_of_end, steps_of_end};
+ghost use Rattle.anomaly.specs.Table.{NumbersAnomaly, NumbersRefusal};
+ghost use Rattle.anomaly.specs.declared.End.TheVariants.{Refused};
 
 // The width of a budget and of a count of steps.
 pub type Steps = u32;
 
-// Why an instruction stops a run: its place, and the steps completed before it.
-#[derive(Clone, Copy)]
+// A number that no anomaly, or no refusal, has.
+#[derive(Clone, Copy, Debug, PartialEq, Eq)]
+pub struct Unlisted(pub u64);
+
+// Why an instruction stops a run.
+#[derive(Clone, Copy, Debug, PartialEq, Eq)]
 pub enum Anomaly {
-    DivisionByZero { pc: usize, steps: Steps },
-    AllocationFailed { pc: usize, steps: Steps },
+    DivisionByZero,
+    AllocationFailed,
     // Call at a depth that equals the frames.
-    StackOverflow { pc: usize, steps: Steps },
-    AssertionFailed { pc: usize, steps: Steps },
+    StackOverflow,
+    AssertionFailed,
     // Load or Store not wholly in pushed pages, or at no multiple of 8.
-    BadAddress { pc: usize, steps: Steps },
+    BadAddress,
     // -2^63 by -1, quotient or remainder.
-    QuotientOverflow { pc: usize, steps: Steps },
+    QuotientOverflow,
     // Ret at depth 0.
-    FrameUnderflow { pc: usize, steps: Steps },
+    FrameUnderflow,
 }
 
 impl Anomaly {
@@ -45,62 +49,38 @@ impl Anomaly {
         ensures { result ≡ number_of_anomaly self }
     {
         match self {
-            Anomaly::DivisionByZero { .. } => Anomaly::DIVISION_BY_ZERO,
-            Anomaly::AllocationFailed { .. } => Anomaly::ALLOCATION_FAILED,
-            Anomaly::StackOverflow { .. } => Anomaly::STACK_OVERFLOW,
-            Anomaly::AssertionFailed { .. } => Anomaly::ASSERTION_FAILED,
-            Anomaly::BadAddress { .. } => Anomaly::BAD_ADDRESS,
-            Anomaly::QuotientOverflow { .. } => Anomaly::QUOTIENT_OVERFLOW,
-            Anomaly::FrameUnderflow { .. } => Anomaly::FRAME_UNDERFLOW,
+            Anomaly::DivisionByZero => Anomaly::DIVISION_BY_ZERO,
+            Anomaly::AllocationFailed => Anomaly::ALLOCATION_FAILED,
+            Anomaly::StackOverflow => Anomaly::STACK_OVERFLOW,
+            Anomaly::AssertionFailed => Anomaly::ASSERTION_FAILED,
+            Anomaly::BadAddress => Anomaly::BAD_ADDRESS,
+            Anomaly::QuotientOverflow => Anomaly::QUOTIENT_OVERFLOW,
+            Anomaly::FrameUnderflow => Anomaly::FRAME_UNDERFLOW,
         }
     }
+}
 
-    pub fn pc(self) -> usize
-        ensures { result ≡ pc_of_anomaly self }
-    {
-        match self {
-            Anomaly::DivisionByZero { pc, .. }
-            | Anomaly::AllocationFailed { pc, .. }
-            | Anomaly::StackOverflow { pc, .. }
-            | Anomaly::AssertionFailed { pc, .. }
-            | Anomaly::BadAddress { pc, .. }
-            | Anomaly::QuotientOverflow { pc, .. }
-            | Anomaly::FrameUnderflow { pc, .. } => pc,
-        }
-    }
+impl TryFrom<u64> for Anomaly {
+    type Error = Unlisted;
 
-    pub fn steps(self) -> Steps
-        ensures { result ≡ steps_of_anomaly self }
-    {
-        match self {
-            Anomaly::DivisionByZero { steps, .. }
-            | Anomaly::AllocationFailed { steps, .. }
-            | Anomaly::StackOverflow { steps, .. }
-            | Anomaly::AssertionFailed { steps, .. }
-            | Anomaly::BadAddress { steps, .. }
-            | Anomaly::QuotientOverflow { steps, .. }
-            | Anomaly::FrameUnderflow { steps, .. } => steps,
-        }
-    }
+    ghost try_from_gives = { NumbersAnomaly };
 
-    pub fn from_number(number: u64, pc: usize, steps: Steps) -> Self
-        requires { is_anomaly number ≡ true }
-        ensures { (number_of_anomaly result ≡ number) × (pc_of_anomaly result ≡ pc) × (steps_of_anomaly result ≡ steps) }
-    {
+    fn try_from(number: u64) -> Result<Self, Unlisted> {
         match number {
-            Anomaly::DIVISION_BY_ZERO => Anomaly::DivisionByZero { pc, steps },
-            Anomaly::ALLOCATION_FAILED => Anomaly::AllocationFailed { pc, steps },
-            Anomaly::STACK_OVERFLOW => Anomaly::StackOverflow { pc, steps },
-            Anomaly::ASSERTION_FAILED => Anomaly::AssertionFailed { pc, steps },
-            Anomaly::BAD_ADDRESS => Anomaly::BadAddress { pc, steps },
-            Anomaly::QUOTIENT_OVERFLOW => Anomaly::QuotientOverflow { pc, steps },
-            _ => Anomaly::FrameUnderflow { pc, steps },
+            Anomaly::DIVISION_BY_ZERO => Ok(Anomaly::DivisionByZero),
+            Anomaly::ALLOCATION_FAILED => Ok(Anomaly::AllocationFailed),
+            Anomaly::STACK_OVERFLOW => Ok(Anomaly::StackOverflow),
+            Anomaly::ASSERTION_FAILED => Ok(Anomaly::AssertionFailed),
+            Anomaly::BAD_ADDRESS => Ok(Anomaly::BadAddress),
+            Anomaly::QUOTIENT_OVERFLOW => Ok(Anomaly::QuotientOverflow),
+            Anomaly::FRAME_UNDERFLOW => Ok(Anomaly::FrameUnderflow),
+            _ => Err(Unlisted(number)),
         }
     }
 }
 
 // Why a call is refused.
-#[derive(Clone, Copy)]
+#[derive(Clone, Copy, Debug, PartialEq, Eq)]
 pub enum Refusal {
     // An allocation that the lent heap has no room for.
     Memory,
@@ -171,36 +151,51 @@ impl Refusal {
             Refusal::Text => Refusal::TEXT,
         }
     }
+}
 
-    pub fn from_number(number: u64) -> Self
-        requires { is_refusal number ≡ true }
-        ensures { number_of_refusal result ≡ number }
-    {
+impl TryFrom<u64> for Refusal {
+    type Error = Unlisted;
+
+    ghost try_from_gives = { NumbersRefusal };
+
+    fn try_from(number: u64) -> Result<Self, Unlisted> {
         match number {
-            Refusal::MEMORY => Refusal::Memory,
-            Refusal::STATE => Refusal::State,
-            Refusal::SIZE => Refusal::Size,
-            Refusal::NO_HALT => Refusal::NoHalt,
-            Refusal::OPCODE => Refusal::Opcode,
-            Refusal::OPERAND => Refusal::Operand,
-            Refusal::TARGET => Refusal::Target,
-            Refusal::INDEX => Refusal::Index,
-            Refusal::TABLE_TARGET => Refusal::TableTarget,
-            Refusal::SMALL_STRING => Refusal::SmallString,
-            Refusal::TABLE_FULL => Refusal::TableFull,
-            _ => Refusal::Text,
+            Refusal::MEMORY => Ok(Refusal::Memory),
+            Refusal::STATE => Ok(Refusal::State),
+            Refusal::SIZE => Ok(Refusal::Size),
+            Refusal::NO_HALT => Ok(Refusal::NoHalt),
+            Refusal::OPCODE => Ok(Refusal::Opcode),
+            Refusal::OPERAND => Ok(Refusal::Operand),
+            Refusal::TARGET => Ok(Refusal::Target),
+            Refusal::INDEX => Ok(Refusal::Index),
+            Refusal::TABLE_TARGET => Ok(Refusal::TableTarget),
+            Refusal::SMALL_STRING => Ok(Refusal::SmallString),
+            Refusal::TABLE_FULL => Ok(Refusal::TableFull),
+            Refusal::TEXT => Ok(Refusal::Text),
+            _ => Err(Unlisted(number)),
         }
     }
 }
 
 // What a run answers.
-#[derive(Clone, Copy)]
+#[derive(Clone, Copy, Debug, PartialEq, Eq)]
 pub enum End {
     // At a Halt, or with nothing to run.
-    Halt { pc: usize, steps: Steps },
+    Halt {
+        pc: usize,
+        steps: Steps,
+    },
     // The budget is completed; pc is the next instruction's.
-    Budget { pc: usize, steps: Steps },
-    Stopped(Anomaly),
+    Budget {
+        pc: usize,
+        steps: Steps,
+    },
+    // At the place of the instruction that stopped it, with the steps completed before.
+    Stopped {
+        why: Anomaly,
+        pc: usize,
+        steps: Steps,
+    },
     Refused(Refusal),
 }
 
@@ -215,7 +210,7 @@ impl End {
         match self {
             End::Halt { .. } => End::HALT,
             End::Budget { .. } => End::BUDGET,
-            End::Stopped(why) => why.number(),
+            End::Stopped { why, .. } => why.number(),
             End::Refused(why) => why.number(),
         }
     }
@@ -225,8 +220,7 @@ impl End {
         ensures { result ≡ pc_of_end self }
     {
         match self {
-            End::Halt { pc, .. } | End::Budget { pc, .. } => pc,
-            End::Stopped(why) => why.pc(),
+            End::Halt { pc, .. } | End::Budget { pc, .. } | End::Stopped { pc, .. } => pc,
             End::Refused(_) => 0,
         }
     }
@@ -235,9 +229,17 @@ impl End {
         ensures { result ≡ steps_of_end self }
     {
         match self {
-            End::Halt { steps, .. } | End::Budget { steps, .. } => steps,
-            End::Stopped(why) => why.steps(),
+            End::Halt { steps, .. } | End::Budget { steps, .. } | End::Stopped { steps, .. } =>
+                steps,
             End::Refused(_) => 0,
         }
+    }
+}
+
+impl From<Refusal> for End {
+    ghost from_gives = { λ why end. end ≡ Refused why };
+
+    fn from(why: Refusal) -> End {
+        End::Refused(why)
     }
 }

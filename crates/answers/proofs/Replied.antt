@@ -46,22 +46,22 @@ pub end-number : (end : End) → number_of_end end ≡ number_of (answer_of end)
 unfolding number_of answer_of
 end-number (End.Halt pc steps) = refl
 end-number (End.Budget pc steps) = refl
-end-number (End.Stopped why) = refl
+end-number (End.Stopped why pc steps) = refl
 end-number (End.Refused why) = refl
 
 -- an end, and no refusal
 abbrev pub IsEnd : End → Type 0
 IsEnd end =
-    ((pc steps : ℕ) × (end ≡ End.Halt pc steps)) ⊎ (((pc steps : ℕ) × (end ≡ End.Budget pc steps)) ⊎ ((why : Anomaly) × (end ≡ End.Stopped why)))
+    ((pc steps : ℕ) × (end ≡ End.Halt pc steps)) ⊎ (((pc steps : ℕ) × (end ≡ End.Budget pc steps)) ⊎ ((why : Anomaly) × (pc steps : ℕ) × (end ≡ End.Stopped why pc steps)))
 
 pub end-answers : (end : End) → IsEnd end → (old : List ℕ) → pc_of_end end ∷ steps_of_end end ∷ [] ≡ answered (answer_of end) old
 unfolding answered answer_of
 end-answers end (inl e) old = rw e.2 refl
 end-answers end (inr (inl e)) old = rw e.2 refl
-end-answers end (inr (inr e)) old = rw e.1 refl
+end-answers end (inr (inr e)) old = rw e.3 refl
 
 pub end_kept : (end : End) → IsEnd end → (s : State) (words : List ℕ) → over (packed s) words ≡ kept (answer_of end) s words
 unfolding kept answer_of
 end_kept end (inl e) s words = rw e.2 refl
 end_kept end (inr (inl e)) s words = rw e.2 refl
-end_kept end (inr (inr e)) s words = rw e.1 refl
+end_kept end (inr (inr e)) s words = rw e.3 refl

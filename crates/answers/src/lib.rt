@@ -87,7 +87,7 @@ pub fn answer_run(ran: Ran, words: &mut [u64], pc: &mut usize, steps: &mut Steps
 {
     let end = ran.end;
     match end {
-        End::Halt { .. } | End::Budget { .. } | End::Stopped(_) => {
+        End::Halt { .. } | End::Budget { .. } | End::Stopped { .. } => {
             let state = ran.state;
             pack(state, words);
             *pc = end.pc();

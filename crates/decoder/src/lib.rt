@@ -12,20 +12,20 @@ use op::word::{
     SWITCH, THREE, TWO, TWO_AND_NUMBER, byte_one, byte_three, byte_two, fits, fits_alloc, target,
     upper, upper_signed,
 };
-use op::{Decoded, Op};
+use op::Op;
 
-fn checked(fits: bool, op: Op) -> Decoded
+fn checked(fits: bool, op: Op) -> Result<Op, Refusal>
     ensures { result ≡ checked_of fits op }
 {
     if fits {
-        Decoded::Op(op)
+        Ok(op)
     } else {
-        Decoded::Refused(Refusal::OPERAND)
+        Err(Refusal::Operand)
     }
 }
 
 // 0 to 11.
-fn integer_arithmetic(w: u64) -> Decoded
+fn integer_arithmetic(w: u64) -> Result<Op, Refusal>
     requires { w % 256 < 12 }
     ensures { result ≡ decode_of w }
 {
@@ -131,7 +131,7 @@ fn integer_arithmetic(w: u64) -> Decoded
 }
 
 // 12 to 25.
-fn comparisons_and_doubles(w: u64) -> Decoded
+fn comparisons_and_doubles(w: u64) -> Result<Op, Refusal>
     requires { (12 ≤ w % 256) × (w % 256 < 26) }
     ensures { result ≡ decode_of w }
 {
@@ -253,7 +253,7 @@ fn comparisons_and_doubles(w: u64) -> Decoded
 }
 
 // 26 to 39, with calls and tables.
-fn moves_and_jumps(w: u64) -> Decoded
+fn moves_and_jumps(w: u64) -> Result<Op, Refusal>
     requires { (26 ≤ w % 256) × (w % 256 < 40) }
     ensures { result ≡ decode_of w }
 {
@@ -350,7 +350,7 @@ fn moves_and_jumps(w: u64) -> Decoded
 }
 
 // 50 to 60, with Ret, Assert, Halt and Nop.
-fn casts_and_memory(w: u64) -> Decoded
+fn casts_and_memory(w: u64) -> Result<Op, Refusal>
     requires { (50 ≤ w % 256) × (w % 256 < opcodes) }
     ensures { result ≡ decode_of w }
 {
@@ -417,7 +417,7 @@ fn casts_and_memory(w: u64) -> Decoded
     }
 }
 
-pub fn decode(w: u64) -> Decoded
+pub fn decode(w: u64) -> Result<Op, Refusal>
     ensures { result ≡ decode_of w }
 {
     let opcode = w % 256;
@@ -426,6 +426,6 @@ pub fn decode(w: u64) -> Decoded
         12..=25 => comparisons_and_doubles(w),
         26..=39 => moves_and_jumps(w),
         50..=60 => casts_and_memory(w),
-        _ => Decoded::Refused(Refusal::OPCODE),
+        _ => Err(Refusal::Opcode),
     }
 }

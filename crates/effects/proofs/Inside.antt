@@ -1,6 +1,8 @@
 -- What the word of a checked image asks for: it goes on inside the code, reads only what is there, writes to a register that is there, and stops
 -- with a listed number. Assumes nothing.
-use Rattle.std.proofs.Common.{◌≡◌, ℕ, zero, suc, ◌-◌, ◌%◌, ◌<◌, Bool, true, false, cond, ltb, List, [], ◌∷◌, length, get_or, take, drop, refl, ap, ◌∙◌, le_of_suc-le-suc, not-suc-le-zero, arith, ltb-true, lt-ltb}
+use Rattle.std.proofs.Common.{◌≡◌, ℕ, zero, suc, ◌-◌, ◌%◌, ◌<◌, Bool, true, false, cond, ltb, List, [], ◌∷◌, length, get_or, take, drop, refl, ap, ◌∙◌, le_of_suc-le-suc, not-suc-le-zero, arith, ltb-true, lt-ltb, Result, Ok, Err}
+use Rattle.anomaly.specs.declared.Refusal.{Refusal}
+use Rattle.anomaly.specs.declared.Refusal.TheVariants.{Operand}
 use Rattle.memory.proofs.Tests.{both}
 use Rattle.anomaly.specs.Table.{is_anomaly}
 use Rattle.value.specs.declared.int.Divided.{Divided}
@@ -8,8 +10,6 @@ use Rattle.value.specs.declared.int.Divided.TheVariants.{Exact, ByZero, Overflow
 use Rattle.value.specs.Cast.{truth}
 use Rattle.op.specs.declared.Op.{Op}
 use Rattle.op.specs.declared.Op.TheVariants.{Halt}
-use Rattle.op.specs.declared.Decoded.{Decoded}
-use Rattle.op.specs.declared.Checked.{Checked}
 use Rattle.op.specs.Layout.{Parts, parts_of, passes, Field, unused, register}
 use Rattle.op.specs.Decode.{Row, row, absent, rows, row_of, decoded_by, decode_of}
 use Rattle.op.specs.Reach.{reach_of, check_of}
@@ -90,9 +90,9 @@ module _ (im : Image) (r : List ℕ) (targets : below (length im.code) im.switch
   abbrev n : ℕ
   n = length im.code
 
-  abbrev Ok : Row → Type 0
-  Ok (row a b c d reach make) = (p : Parts) → In a b c d p → There (counts im) reach p → EffectOk n (effect_of im r (make p))
-  Ok absent = Unit {0}
+  abbrev RowOk : Row → Type 0
+  RowOk (row a b c d reach make) = (p : Parts) → In a b c d p → There (counts im) reach p → EffectOk n (effect_of im r (make p))
+  RowOk absent = Unit {0}
 
   -- it sets the register in byte 1; it writes to none and goes on
   sets : {b c d : Field} {H : Type 0} (p : Parts) → In register b c d p → H → p.one < 32
@@ -101,7 +101,7 @@ module _ (im : Image) (r : List ℕ) (targets : below (length im.code) im.switch
   free : {a b c d : Field} {H : Type 0} (p : Parts) → In a b c d p → H → Unit {0}
   free p i h = tt
 
-  all_ok : Each Ok rows
+  all_ok : Each RowOk rows
   unfolding rows effect_of counts
   all_ok =
       -- 0: integer arithmetic
@@ -130,33 +130,33 @@ module _ (im : Image) (r : List ℕ) (targets : below (length im.code) im.switch
       free also (λ p i h. either _ (truth (get_or r p.one 0)) _ _ (λ e. tt) (λ e. refl)) also free also free also
       tt
 
-  by_row : (x : Row) (p : Parts) (op : Op) → Ok x → Makes x p op → There (counts im) (reach_of x) p → EffectOk n (effect_of im r op)
+  by_row : (x : Row) (p : Parts) (op : Op) → RowOk x → Makes x p op → There (counts im) (reach_of x) p → EffectOk n (effect_of im r op)
   by_row (row a b c d reach make) p op ok m h = rw m.1 at (ok p m.0 h)
   by_row absent p op ok m h = absurd m
 
-  pub asks_ok : (w : ℕ) → check_of (counts im) w ≡ Checked.Fine → EffectOk n (word_effect im r (decode_of w))
+  pub asks_ok : (w : ℕ) → check_of (counts im) w ≡ Ok tt → EffectOk n (word_effect im r (decode_of w))
   unfolding word_effect
   asks_ok w h =
       let runs = fine (counts im) w h in
       let place = w % 256 in
       rw runs.decodes
-      (by_row (row_of place) (parts_of w) runs.op (each_row Ok tt all_ok place) (makes w runs.op runs.decodes) runs.reaches)
+      (by_row (row_of place) (parts_of w) runs.op (each_row RowOk tt all_ok place) (makes w runs.op runs.decodes) runs.reaches)
 
 -- ---- the last word
 
-only_halt : (b : Bool) (op : Op) → ◌≡◌ {A = Decoded} (cond b (Decoded.Op Halt) (Decoded.Refused 13)) (Decoded.Op op) → op ≡ Halt
+only_halt : (b : Bool) (op : Op) → ◌≡◌ {A = Result Op Refusal} (cond b (Ok Halt) (Err Operand)) (Ok op) → op ≡ Halt
 only_halt true op e = cc
 only_halt false op e = let z : ◌≡◌ {A = ℕ} 0 1 = cc in absurd (omega arith)
 
 -- a word with the opcode of Halt is a Halt, where it is an instruction
-halt_word : (w : ℕ) (op : Op) → w % 256 ≡ 59 → decode_of w ≡ Decoded.Op op → op ≡ Halt
+halt_word : (w : ℕ) (op : Op) → w % 256 ≡ 59 → decode_of w ≡ Ok op → op ≡ Halt
 unfolding decode_of rows decoded_by
 halt_word w op e h = only_halt (passes unused unused unused unused (parts_of w)) op (row 59 refl ∙ h)
   where
-    row : (k : ℕ) → k ≡ 59 → cond (passes unused unused unused unused (parts_of w)) (Decoded.Op Halt) (Decoded.Refused 13)
+    row : (k : ℕ) → k ≡ 59 → cond (passes unused unused unused unused (parts_of w)) (Ok Halt) (Err Operand)
         ≡ decoded_by (row_of (w % 256)) (parts_of w)
     row k q = rw (ap (λ (j : ℕ). decoded_by (row_of j) (parts_of w)) e) refl
 
-pub halt_effect : (im : Image) (r : List ℕ) (w : ℕ) → check_of (counts im) w ≡ Checked.Fine → w % 256 ≡ 59 → word_effect im r (decode_of w) ≡ effect.Halt
+pub halt_effect : (im : Image) (r : List ℕ) (w : ℕ) → check_of (counts im) w ≡ Ok tt → w % 256 ≡ 59 → word_effect im r (decode_of w) ≡ effect.Halt
 unfolding word_effect effect_of
 halt_effect im r w h e = let runs = fine (counts im) w h in rw (runs.decodes, halt_word w runs.op e runs.decodes) refl

@@ -1,5 +1,5 @@
 -- What each instruction asks for, by its operands, the registers and the image: the meaning of every `Op`. Definitions only.
-use Rattle.std.specs.Prelude.{ℕ, ◌+◌, ◌-◌, ◌*◌, ◌/◌, ◌%◌, ◌^◌, Bool, cond, not, List, length, ◌==◌, bit_and, int_lt, nat_lt, slice_index, slice_index_or}
+use Rattle.std.specs.Prelude.{ℕ, ◌+◌, ◌-◌, ◌*◌, ◌/◌, ◌%◌, ◌^◌, Bool, cond, not, List, length, ◌==◌, bit_and, int_lt, nat_lt, slice_index, slice_index_or, Result, Ok, Err}
 use Rattle.std.specs.Bool.{beq}
 use Rattle.std.specs.Float.Ieee as Ieee
 use Rattle.value.specs.declared.int.Divided.{Divided}
@@ -9,7 +9,8 @@ use Rattle.value.specs.Double.{double, on}
 use Rattle.value.specs.Cast.{truth, bit, cast_to_int, cast_to_double, cast_to_bool}
 use Rattle.op.specs.declared.Op.{Op}
 use Rattle.op.specs.declared.Op.TheVariants as op
-use Rattle.op.specs.declared.Decoded.{Decoded}
+use Rattle.anomaly.specs.declared.Refusal.{Refusal}
+use Rattle.anomaly.specs.Table.{number_of_refusal}
 use Rattle.effects.specs.declared.Effect.{Effect}
 use Rattle.effects.specs.declared.Effect.TheVariants as effect
 use Rattle.program.specs.Image.{Image, entries_of}
@@ -114,6 +115,6 @@ effect_of im r op.Halt = effect.Halt
 effect_of im r op.Nop = effect.Skip
 
 -- the effect of a decoded word. One that is no instruction would stop with its refusal; the loader has refused it before
-unfoldable pub word_effect : Image → List ℕ → Decoded → Effect
-word_effect im r (Decoded.Op o) = effect_of im r o
-word_effect im r (Decoded.Refused k) = effect.Stop k
+unfoldable pub word_effect : Image → List ℕ → Result Op Refusal → Effect
+word_effect im r (Ok o) = effect_of im r o
+word_effect im r (Err why) = effect.Stop (number_of_refusal why)

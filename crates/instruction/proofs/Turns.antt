@@ -7,7 +7,7 @@ use Rattle.memory.specs.Lists.{over, write, part}
 use Rattle.memory.proofs.Over.{over-take, over-more, over-write, length-write}
 use Rattle.memory.proofs.Bytes.{length-bytes_of}
 use Rattle.memory.proofs.Tests.{both}
-use Rattle.anomaly.proofs.Numbers.{either}
+use Rattle.std.proofs.lemmas.Bool.{or_cases}
 use Rattle.string.specs.Payload.{reaches}
 use Rattle.gc.specs.declared.Gc.{Gc}
 use Rattle.std.specs.Prelude as std
@@ -57,7 +57,7 @@ outside_by false j e = refl
 
 pub one_high : (a b : ℕ) → (leb (2 ^ 48) a || leb (2 ^ 48) b) ≡ true → 2 ^ 48 ≤ a + b
 one_high a b h = ⊎_elim (λ p. omega (arith, leb-true (2 ^ 48) a p)) (λ p. omega (arith, leb-true (2 ^ 48) b p))
-    (either (leb (2 ^ 48) a) (leb (2 ^ 48) b) h)
+    (or_cases (leb (2 ^ 48) a) (leb (2 ^ 48) b) h)
 
 pub both_low : (a b : ℕ) → (leb (2 ^ 48) a || leb (2 ^ 48) b) ≡ false → (a < 2 ^ 48) × (b < 2 ^ 48)
 both_low a b h = by (leb (2 ^ 48) a) (leb (2 ^ 48) b) refl refl h

@@ -138,7 +138,10 @@ fn names(rt: &impl Print) -> io::Result<()> {
 
 // 0 for an instruction, or the refusal's number.
 fn decoded(w: u64) -> u64 {
-    decoder::decode(w).refusal()
+    match decoder::decode(w) {
+        Ok(_) => 0,
+        Err(why) => why.number(),
+    }
 }
 
 fn words(rt: &impl Print) -> io::Result<()> {

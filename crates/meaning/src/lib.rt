@@ -11,7 +11,7 @@ ghost use Rattle.effects.specs.declared.Effect.{Effect};
 
 use anomaly::Anomaly;
 use effects::{Effect, tables};
-use op::{Decoded, Op};
+use op::Op;
 use value::int::Divided;
 use value::{Value, double, int};
 
@@ -182,8 +182,8 @@ pub fn word_effect(w: u64, regs: &[u64; 32], image: &[u64]) -> Effect
     ensures { result ≡ word_effect (cut image.now) regs.now (decode_of w) }
 {
     let decoded = decoder::decode(w);
-    let Decoded::Op(op) = decoded else {
-        return Effect::Stop(decoded.refusal());
+    let Ok(op) = decoded else {
+        return Effect::Stop(decoded.unwrap_err().number());
     };
     effect_of(op, regs, image)
 }

@@ -1,10 +1,10 @@
 -- The rows of the table by their places: those of a run of opcodes that are alike, and those that no instruction has.
 -- Assumes nothing.
-use Rattle.std.proofs.Common.{◌≡◌, ℕ, zero, suc, ◌+◌, ◌-◌, ◌%◌, ◌<◌, ◌≤◌, Bool, true, false, ltb, List, [], ◌∷◌, map, length, get_or, take, drop, replicate, sym, refl, ap, ◌∙◌, le_of_suc-le-suc, not-suc-le-zero, arith, get_or-drop, get_or-take, ltb-false, ltb-true}
+use Rattle.std.proofs.Common.{◌≡◌, ℕ, zero, suc, ◌+◌, ◌-◌, ◌%◌, ◌<◌, ◌≤◌, Bool, true, false, ltb, List, [], ◌∷◌, map, length, get_or, take, drop, replicate, sym, refl, ap, ◌∙◌, le_of_suc-le-suc, not-suc-le-zero, arith, get_or-drop, get_or-take, ltb-false, ltb-true, Err}
+use Rattle.anomaly.specs.declared.Refusal.TheVariants.{Opcode}
 use lib.ListN.{get_or-replicate, get_or-map, get_or-eq_default}
 use Rattle.op.specs.Layout.{parts_of}
 use Rattle.op.specs.Decode.{Row, absent, rows, opcodes, row_of, decoded_by, decode_of}
-use Rattle.op.specs.declared.Decoded.{Decoded}
 
 -- what holds of `count` rows from `low` on holds of each
 pub run : {A : Type 0} (f : Row → A) (x : A) (low count : ℕ) → map f (take count (drop low rows)) ≡ replicate count x →
@@ -63,12 +63,12 @@ onwards f x low alike none k above = go (ltb k opcodes) refl
     go true h = let small = ltb-true k opcodes h in run f x low (opcodes - low) alike k above (omega arith)
     go false h = ap f (absent_above k (ltb-false k opcodes h)) ∙ none
 
-refused : (w : ℕ) → row_of (w % 256) ≡ absent → Decoded.Refused 12 ≡ decode_of w
+refused : (w : ℕ) → row_of (w % 256) ≡ absent → Err Opcode ≡ decode_of w
 unfolding decoded_by decode_of
 refused w h = ap (λ (r : Row). decoded_by r (parts_of w)) (sym h)
 
-pub refused-between : (w : ℕ) → 40 ≤ w % 256 → w % 256 < 50 → Decoded.Refused 12 ≡ decode_of w
+pub refused-between : (w : ℕ) → 40 ≤ w % 256 → w % 256 < 50 → Err Opcode ≡ decode_of w
 refused-between w low high = refused w (absent-between (w % 256) low high)
 
-pub refused_above : (w : ℕ) → opcodes ≤ w % 256 → Decoded.Refused 12 ≡ decode_of w
+pub refused_above : (w : ℕ) → opcodes ≤ w % 256 → Err Opcode ≡ decode_of w
 refused_above w high = refused w (absent_above (w % 256) high)

@@ -1,16 +1,17 @@
 -- What callers may use of `decode` and `check`: an instruction is what its row makes of parts that hold what they may, a word that an
 -- image may hold names only what is there, and which numbers refuse. Assumes nothing.
-use Rattle.std.proofs.Common.{◌≡◌, ℕ, ◌%◌, ◌^◌, ◌<◌, ◌≤◌, Bool, true, false, cond, ◌&&◌, ltb, refl, arith, ltb-true}
+use Rattle.std.proofs.Common.{◌≡◌, ℕ, ◌%◌, ◌^◌, ◌<◌, ◌≤◌, Bool, true, false, cond, ◌&&◌, ltb, refl, arith, ltb-true, Result, Ok, Err}
+use Rattle.anomaly.specs.declared.Refusal.{Refusal}
+use Rattle.anomaly.specs.declared.Refusal.TheVariants.{Target, Index}
+use Rattle.anomaly.specs.Table.{number_of_refusal}
 use Rattle.memory.proofs.Tests.{both}
 use Rattle.op.specs.Layout.{Parts, parts_of, holds, passes, Field, unused, register, switchKind, allocKind, alignment, anyByte, anyNumber}
 use Rattle.op.specs.Layout.{Reach, nothing, jump, function, global, switchTable, lookupTable}
 use Rattle.op.specs.Decode.{Row, row, absent, row_of, checked_of, decoded_by, decode_of}
-use Rattle.op.specs.Reach.{inside_of, there, reach_of, judged, check_of}
+use Rattle.op.specs.Reach.{Checked, inside_of, there, reach_of, judged, check_of}
 use Rattle.op.specs.Operands.{Holds, In, Makes, There}
 use Rattle.op.specs.declared.Op.{Op}
-use Rattle.op.specs.declared.Decoded.{Decoded}
 use Rattle.op.specs.declared.Counts.{Counts}
-use Rattle.op.specs.declared.Checked.{Checked}
 
 -- ---- From the tests of a word to what they test
 
@@ -38,9 +39,9 @@ parts_in one two three number p h =
 -- ---- Decoded words
 
 module _ (r : Row) (p : Parts) where
-  abbrev OkDecoded : Decoded → Type 0
-  OkDecoded (Decoded.Op op) = Makes r p op
-  OkDecoded (Decoded.Refused k) = (12 ≤ k) × (k ≤ 13)
+  abbrev OkDecoded : Result Op Refusal → Type 0
+  OkDecoded (Ok op) = Makes r p op
+  OkDecoded (Err why) = (12 ≤ number_of_refusal why) × (number_of_refusal why ≤ 13)
 
   by_test : (fits : Bool) (op : Op) → (fits ≡ true → Makes r p op) → OkDecoded (checked_of fits op)
   by_test true op h = h refl
@@ -56,50 +57,50 @@ ok_decoded : (w : ℕ) → OkDecoded (row_of (w % 256)) (parts_of w) (decode_of 
 unfolding decode_of
 ok_decoded w = by_row (row_of (w % 256)) (parts_of w)
 
-pub makes : (w : ℕ) (op : Op) → decode_of w ≡ Decoded.Op op → Makes (row_of (w % 256)) (parts_of w) op
+pub makes : (w : ℕ) (op : Op) → decode_of w ≡ Ok op → Makes (row_of (w % 256)) (parts_of w) op
 makes w op h = rw h at (ok_decoded w)
 
-pub decode_refuses : (w k : ℕ) → decode_of w ≡ Decoded.Refused k → (12 ≤ k) × (k ≤ 13)
-decode_refuses w k h = rw h at (ok_decoded w)
+pub decode_refuses : (w : ℕ) (why : Refusal) → decode_of w ≡ Err why → (12 ≤ number_of_refusal why) × (number_of_refusal why ≤ 13)
+decode_refuses w why h = rw h at (ok_decoded w)
 
 -- ---- Checked words
 
 -- a word that an image with these counts may hold
 pub record Runs (n : Counts) (w : ℕ) : Type 0 where
   pub op : Op
-  pub decodes : decode_of w ≡ Decoded.Op op
+  pub decodes : decode_of w ≡ Ok op
   pub reaches : There n (reach_of (row_of (w % 256))) (parts_of w)
 
 module _ (n : Counts) (w : ℕ) where
   abbrev OkChecked : Checked → Type 0
-  OkChecked Checked.Fine = Runs n w
-  OkChecked (Checked.Refused k) = (12 ≤ k) × (k ≤ 15)
+  OkChecked (Ok x) = Runs n w
+  OkChecked (Err why) = (12 ≤ number_of_refusal why) × (number_of_refusal why ≤ 15)
 
-  by_count : (at count refusal : ℕ) → (12 ≤ refusal) × (refusal ≤ 15) → (at < count → Runs n w) → OkChecked (inside_of at count refusal)
+  by_count : (at count : ℕ) (refusal : Refusal) → (12 ≤ number_of_refusal refusal) × (number_of_refusal refusal ≤ 15) → (at < count → Runs n w) → OkChecked (inside_of at count refusal)
   by_count at count refusal range runs = go (ltb at count) refl
     where
-      go : (test : Bool) → ltb at count ≡ test → OkChecked (cond test Checked.Fine (Checked.Refused refusal))
+      go : (test : Bool) → ltb at count ≡ test → OkChecked (cond test (Ok tt) (Err refusal))
       go true h = runs (ltb-true at count h)
       go false h = range
 
   by_reach : (r : Reach) (p : Parts) → (There n r p → Runs n w) → OkChecked (there n r p)
   by_reach nothing p runs = runs tt
-  by_reach jump p runs = by_count p.target n.code 14 (omega arith) runs
-  by_reach function p runs = by_count p.number n.code 14 (omega arith) runs
-  by_reach global p runs = by_count p.number n.globals 15 (omega arith) runs
-  by_reach switchTable p runs = by_count p.number n.switches 15 (omega arith) runs
-  by_reach lookupTable p runs = by_count p.number n.lookups 15 (omega arith) runs
+  by_reach jump p runs = by_count p.target n.code Target (omega arith) runs
+  by_reach function p runs = by_count p.number n.code Target (omega arith) runs
+  by_reach global p runs = by_count p.number n.globals Index (omega arith) runs
+  by_reach switchTable p runs = by_count p.number n.switches Index (omega arith) runs
+  by_reach lookupTable p runs = by_count p.number n.lookups Index (omega arith) runs
 
-  by_decoded : (d : Decoded) → decode_of w ≡ d → OkChecked (judged n (reach_of (row_of (w % 256))) (parts_of w) d)
-  by_decoded (Decoded.Op op) e = by_reach (reach_of (row_of (w % 256))) (parts_of w) (λ h. record { op = op; decodes = e; reaches = h })
-  by_decoded (Decoded.Refused k) e = let h = decode_refuses w k e in omega arith
+  by_decoded : (d : Result Op Refusal) → decode_of w ≡ d → OkChecked (judged n (reach_of (row_of (w % 256))) (parts_of w) d)
+  by_decoded (Ok op) e = by_reach (reach_of (row_of (w % 256))) (parts_of w) (λ h. record { op = op; decodes = e; reaches = h })
+  by_decoded (Err why) e = let h = decode_refuses w why e in omega arith
 
   ok_checked : OkChecked (check_of n w)
   unfolding check_of
   ok_checked = by_decoded (decode_of w) refl
 
-  pub fine : check_of n w ≡ Checked.Fine → Runs n w
+  pub fine : check_of n w ≡ Ok tt → Runs n w
   fine h = rw h at ok_checked
 
-  pub check_refuses : (k : ℕ) → check_of n w ≡ Checked.Refused k → (12 ≤ k) × (k ≤ 15)
-  check_refuses k h = rw h at ok_checked
+  pub check_refuses : (why : Refusal) → check_of n w ≡ Err why → (12 ≤ number_of_refusal why) × (number_of_refusal why ≤ 15)
+  check_refuses why h = rw h at ok_checked

@@ -1,10 +1,11 @@
 -- Document 01, 'Instruction and image': what a word means. Definitions only.
-use Rattle.std.specs.Prelude.{ℕ, Bool, cond, List, [], ◌∷◌, slice_index_or}
+use Rattle.std.specs.Prelude.{ℕ, Bool, cond, List, [], ◌∷◌, slice_index_or, Result, Ok, Err}
+use Rattle.anomaly.specs.declared.Refusal.{Refusal}
+use Rattle.anomaly.specs.declared.Refusal.TheVariants.{Opcode, Operand}
 use Rattle.op.specs.Layout.{Parts, parts_of, passes, Field, unused, register, switchKind, allocKind, alignment, anyByte, anyNumber}
 use Rattle.op.specs.Layout.{Reach, nothing, jump, function, global, switchTable, lookupTable}
 use Rattle.op.specs.declared.Op.{Op}
 use Rattle.op.specs.declared.Op.TheVariants as op
-use Rattle.op.specs.declared.Decoded.{Decoded}
 
 -- an opcode: what bytes 1, 2 and 3 and the number in bytes 4 to 7 may hold, what it names, and the instruction; or one that is not carried
 pub data Row : Type 0 where
@@ -91,21 +92,16 @@ abbrev pub row_of : ℕ → Row
 row_of opcode = slice_index_or rows opcode absent
 
 -- 13: 'register above 31, kind, align not 1, 2, 4, 8, or unused byte'
-abbrev pub checked_of : Bool → Op → Decoded
-checked_of fits op = cond fits (Decoded.Op op) (Decoded.Refused 13)
+abbrev pub checked_of : {A : Type 0} → Bool → A → Result A Refusal
+checked_of fits x = cond fits (Ok x) (Err Operand)
 
 -- 12: 'opcode 40–49 or above 60'
-unfoldable pub decoded_by : Row → Parts → Decoded
+unfoldable pub decoded_by : Row → Parts → Result Op Refusal
 decoded_by (row one two three number reach make) p = checked_of (passes one two three number p) (make p)
-decoded_by absent p = Decoded.Refused 12
+decoded_by absent p = Err Opcode
 
-abbrev pub decoded : Parts → Decoded
+abbrev pub decoded : Parts → Result Op Refusal
 decoded p = decoded_by (row_of p.opcode) p
 
-unfoldable pub decode_of : ℕ → Decoded
+unfoldable pub decode_of : ℕ → Result Op Refusal
 decode_of w = decoded (parts_of w)
-
--- the refusal's number; of an instruction 0
-abbrev pub refusal_of : Decoded → ℕ
-refusal_of (Decoded.Op op) = 0
-refusal_of (Decoded.Refused k) = k

@@ -1,10 +1,10 @@
 -- The bits of a word that are zero where its parts hold what they may, and what is left to be tested of it. Definitions only.
-use Rattle.std.specs.Prelude.{ℕ, ◌+◌, ◌-◌, ◌*◌, ◌^◌, Bool, true, cond, ◌&&◌}
+use Rattle.std.specs.Prelude.{ℕ, ◌+◌, ◌-◌, ◌*◌, ◌^◌, Bool, true, cond, ◌&&◌, Ok, Err}
+use Rattle.anomaly.specs.declared.Refusal.TheVariants.{Operand}
 use Rattle.op.specs.Layout.{Parts, is_alignment, Field, unused, register, switchKind, allocKind, alignment, anyByte, anyNumber}
 use Rattle.op.specs.Decode.{Row, row, absent}
-use Rattle.op.specs.Reach.{there}
+use Rattle.op.specs.Reach.{Checked, there}
 use Rattle.op.specs.declared.Counts.{Counts}
-use Rattle.op.specs.declared.Checked.{Checked}
 
 -- a field holds numbers below 2 to this
 abbrev pub bits : Field → ℕ
@@ -44,5 +44,5 @@ all_aligned one two three number p = aligned one p.one && aligned two p.two && a
 
 -- what is answered of a word that has no bit of its mask; of a row that is not carried it is not asked
 unfoldable pub rest_of : Row → Counts → Parts → Checked
-rest_of (row one two three number reach make) n p = cond (all_aligned one two three number p) (there n reach p) (Checked.Refused 13)
-rest_of absent n p = Checked.Fine
+rest_of (row one two three number reach make) n p = cond (all_aligned one two three number p) (there n reach p) (Err Operand)
+rest_of absent n p = Ok tt

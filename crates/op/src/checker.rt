@@ -1,8 +1,8 @@
 // Whether an image may hold a word. This is for every word of an image, before a run: it goes by a table of masks, and leaves
 // `decode` (`decoder`) to the loop of the run.
-ghost use Rattle.std.specs.Prelude.{◌≡◌, ◌%◌, if◌then◌else◌};
+ghost use Rattle.std.specs.Prelude.{◌≡◌, ◌%◌};
 ghost use Rattle.op.specs.Layout.{parts_of, is_alignment};
-ghost use Rattle.op.specs.Decode.{row_of};
+ghost use Rattle.op.specs.Decode.{row_of, checked_of};
 ghost use Rattle.op.specs.Masks.{mask_of_row, rest_of};
 ghost use Rattle.op.specs.Reach.{check_of, inside_of};
 
@@ -11,7 +11,7 @@ use crate::word::{
     ONE_AND_NUMBER, SWITCH, THREE, TWO, TWO_AND_NUMBER, byte_three, fits, is_alignment, target,
     upper,
 };
-use crate::{Checked, Counts, OPCODES};
+use crate::{Counts, OPCODES};
 use anomaly::Refusal;
 
 // No format has a bit of the opcode in its mask.
@@ -92,58 +92,58 @@ fn mask(opcode: usize) -> u64
     }
 }
 
-fn aligned(align: usize) -> Checked
-    ensures { result ≡ (if is_alignment align then Checked.Fine else Checked.Refused 13) }
+fn aligned(align: usize) -> Result<(), Refusal>
+    ensures { result ≡ checked_of (is_alignment align) tt }
 {
     if is_alignment(align) {
-        Checked::Fine
+        Ok(())
     } else {
-        Checked::Refused(Refusal::OPERAND)
+        Err(Refusal::Operand)
     }
 }
 
-fn inside(at: usize, count: usize, refusal: u64) -> Checked
+fn inside(at: usize, count: usize, refusal: Refusal) -> Result<(), Refusal>
     ensures { result ≡ inside_of at count refusal }
 {
     if at < count {
-        Checked::Fine
+        Ok(())
     } else {
-        Checked::Refused(refusal)
+        Err(refusal)
     }
 }
 
 // What its mask leaves of a word: an alignment, or whether what it names is below its count.
-fn rest(w: u64, n: Counts) -> Checked
+fn rest(w: u64, n: Counts) -> Result<(), Refusal>
     ensures { result ≡ rest_of (row_of (w % 256)) n (parts_of w) }
 {
     let opcode = w % 256;
     match opcode {
         // LoadG
-        28 => inside(upper(w), n.globals, Refusal::INDEX),
+        28 => inside(upper(w), n.globals, Refusal::Index),
         // Jmp to JmpSNe
-        29..=35 => inside(target(w), n.code, Refusal::TARGET),
+        29..=35 => inside(target(w), n.code, Refusal::Target),
         // Switch
-        36 => inside(upper(w), n.switches, Refusal::INDEX),
+        36 => inside(upper(w), n.switches, Refusal::Index),
         // Lookup
-        37 => inside(upper(w), n.lookups, Refusal::INDEX),
+        37 => inside(upper(w), n.lookups, Refusal::Index),
         // Tail, Call
-        38..=39 => inside(upper(w), n.code, Refusal::TARGET),
+        38..=39 => inside(upper(w), n.code, Refusal::Target),
         // Alloc
         53 => aligned(byte_three(w)),
-        _ => Checked::Fine,
+        _ => Ok(()),
     }
 }
 
-pub fn check(w: u64, n: Counts) -> Checked
+pub fn check(w: u64, n: Counts) -> Result<(), Refusal>
     ensures { result ≡ check_of n w }
 {
     let mask = mask((w % 256) as usize);
     if mask == ABSENT {
-        return Checked::Refused(Refusal::OPCODE);
+        return Err(Refusal::Opcode);
     }
     if fits(w, mask) {
         rest(w, n)
     } else {
-        Checked::Refused(Refusal::OPERAND)
+        Err(Refusal::Operand)
     }
 }

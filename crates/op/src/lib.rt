@@ -27,9 +27,6 @@
 // What is empty here is zero. `imm` and `value` are signed; `Op` has them 64 bits wide.
 #![tactic(auto)]
 
-ghost use Rattle.std.specs.Prelude.{◌≡◌};
-ghost use Rattle.op.specs.Decode.{refusal_of};
-
 mod checker;
 pub mod word;
 
@@ -44,7 +41,7 @@ const OPCODES: usize = 61;
 // The number of a register. All fields of `Op` are 8 bytes wide: with narrower ones the loop of a run is slower.
 pub type Reg = usize;
 
-#[derive(Clone, Copy)]
+#[derive(Clone, Copy, Debug, PartialEq, Eq)]
 pub enum Op {
     // r[dst] = r[lhs] + r[rhs]
     IAdd {
@@ -335,37 +332,11 @@ impl Op {
     pub const STR: u64 = 0;
 }
 
-// What a word means.
-#[derive(Clone, Copy)]
-pub enum Decoded {
-    Op(Op),
-    Refused(u64),
-}
-
-impl Decoded {
-    // The refusal's number; of an instruction 0.
-    pub fn refusal(self) -> u64
-        ensures { result ≡ refusal_of self }
-    {
-        match self {
-            Decoded::Op(_) => 0,
-            Decoded::Refused(number) => number,
-        }
-    }
-}
-
 // How many words, globals and tables of each kind an image has.
-#[derive(Clone, Copy)]
+#[derive(Clone, Copy, Debug, PartialEq, Eq)]
 pub struct Counts {
     pub code: usize,
     pub globals: usize,
     pub switches: usize,
     pub lookups: usize,
-}
-
-// Whether an image may hold a word.
-#[derive(Clone, Copy)]
-pub enum Checked {
-    Fine,
-    Refused(u64),
 }

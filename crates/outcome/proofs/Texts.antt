@@ -21,5 +21,5 @@ pub run_reported : (end : End) → ((why : Refusal) → end ≡ End.Refused why 
 unfolding answer_of run_text
 run_reported (End.Halt pc steps) is s = refl
 run_reported (End.Budget pc steps) is s = refl
-run_reported (End.Stopped why) is s = refl
+run_reported (End.Stopped why pc steps) is s = refl
 run_reported (End.Refused why) is s = absurd (is why refl)

@@ -2,18 +2,21 @@
 use mathlib.Core.Path.{◌≡◌, refl, sym, ap, ◌∙◌}
 use Prim.Native.Nat.{ℕ, ◌+◌, ◌-◌, ◌%◌, ◌≤◌, ◌<◌}
 use mathlib.Core.Bool.{Bool, true, false, ◌&&◌}
-use mathlib.Core.Option.{Option}
+use mathlib.Core.Option.{Option, none, some}
 use mathlib.Core.List.{List, [], ◌∷◌}
 use native.Mathlib.Omega.{arith}
 use native.Mathlib.Numerals.{add-one}
 use lib.ListN.{length, get_or, drop, drop_of_length-le}
 use lib.Seq.{drop-cons}
-use lib.Dec.{eqb}
-use borrow.Author.Tests.{le-ltb, lt-ltb, le-leb, lt-leb}
-use Rattle.op.specs.declared.Checked.{Checked}
+use lib.Dec.{eqb, ltb}
+use Rattle.std.specs.List.{list_all}
+use borrow.Author.Tests.{le-leb, lt-leb}
+use Rattle.std.specs.Prelude.{Ok, Err}
+use Rattle.anomaly.specs.declared.Refusal.{Refusal}
+use Rattle.anomaly.specs.Table.{number_of_refusal}
 use Rattle.op.specs.declared.Counts.{Counts}
 use Rattle.op.specs.Reach.{check_of}
-use Rattle.program.specs.Image.{Image, counts, rising, image_ok, ends_in_halt, below, word_test, word_tests, image_tests, failing, verdict}
+use Rattle.program.specs.Image.{Image, counts, rising, image_ok, ends_in_halt, below, word_test, word_tests, image_tests, failing}
 
 -- a pass that has come to i
 module _ (A : Type 0) (f : List ℕ → A) (xs : List ℕ) (i : ℕ) (whole : A) (g : f (drop i xs) ≡ whole) where
@@ -23,18 +26,10 @@ module _ (A : Type 0) (f : List ℕ → A) (xs : List ℕ) (i : ℕ) (whole : A)
   past : length xs ≤ i → f [] ≡ whole
   past h = ap f (sym (drop_of_length-le xs h)) ∙ g
 
-module _ (n : ℕ) (xs : List ℕ) (i : ℕ) (g : below n (drop i xs) ≡ below n xs) where
-  pub below_fails : i < length xs → n ≤ get_or xs i 0 → false ≡ below n xs
-  unfolding below
-  below_fails h k = rw (le-ltb _ _ k) at (here Bool (below n) xs i (below n xs) g h)
-
-  pub below_on : i < length xs → get_or xs i 0 < n → below n (drop (i + 1) xs) ≡ below n xs
-  unfolding below
-  below_on h k = rw (lt-ltb _ _ k) at (here Bool (below n) xs i (below n xs) g h)
-
-  pub below_end : length xs ≤ i → true ≡ below n xs
-  unfolding below
-  below_end h = past Bool (below n) xs i (below n xs) g h
+pub below_all : (n : ℕ) (xs : List ℕ) → list_all (λ x. ltb x n) xs ≡ below n xs
+unfolding below
+below_all n [] = refl
+below_all n (x ∷ xs) = ap (λ (b : Bool). ltb x n && b) (below_all n xs)
 
 module _ (start : ℕ) (ends : List ℕ) (to from i : ℕ) (g : rising from (drop i ends) to ≡ rising start ends to) where
   abbrev onwards : List ℕ → Bool
@@ -56,18 +51,17 @@ module _ (n : Counts) (code : List ℕ) (i : ℕ) (g : failing (word_tests n (dr
   abbrev tested : List ℕ → Option ℕ
   tested ws = failing (word_tests n ws)
 
-  pub word_fails : (k : ℕ) → i < length code → check_of n (get_or code i 0) ≡ Checked.Refused k
-      → Checked.Refused k ≡ verdict (failing (word_tests n code))
-  unfolding failing word_tests word_test verdict
-  word_fails k h e = let t = rw e at (here (Option ℕ) tested code i (tested code) g h) in ap verdict t
+  pub word_fails : (why : Refusal) → i < length code → check_of n (get_or code i 0) ≡ Err why → some (number_of_refusal why) ≡ failing (word_tests n code)
+  unfolding failing word_tests word_test
+  word_fails why h e = rw e at (here (Option ℕ) tested code i (tested code) g h)
 
-  pub word_on : i < length code → check_of n (get_or code i 0) ≡ Checked.Fine → failing (word_tests n (drop (i + 1) code)) ≡ failing (word_tests n code)
+  pub word_on : i < length code → check_of n (get_or code i 0) ≡ Ok tt → failing (word_tests n (drop (i + 1) code)) ≡ failing (word_tests n code)
   unfolding failing word_tests word_test
   word_on h e = rw e at (here (Option ℕ) tested code i (tested code) g h)
 
-  pub words-end : length code ≤ i → Checked.Fine ≡ verdict (failing (word_tests n code))
-  unfolding failing word_tests verdict
-  words-end h = ap verdict (past (Option ℕ) tested code i (tested code) g h)
+  pub words-end : length code ≤ i → none ≡ failing (word_tests n code)
+  unfolding failing word_tests
+  words-end h = past (Option ℕ) tested code i (tested code) g h
 
 pub no_code : (code : List ℕ) → length code ≡ 0 → true ≡ ends_in_halt code
 unfolding ends_in_halt
@@ -81,21 +75,21 @@ last_word (w ∷ ws) e = let i : length (w ∷ ws) - 1 ≡ length ws = omega ari
 
 -- the tests of an image in turn
 module _ (lent : Bool) (im : Image) where
-  pub refused_10 : (lent && image_ok im) ≡ false → Checked.Refused 10 ≡ verdict (failing (image_tests lent im))
-  unfolding failing image_tests verdict
-  refused_10 e = rw (e, failing, verdict) refl
+  pub refused_10 : (lent && image_ok im) ≡ false → some 10 ≡ failing (image_tests lent im)
+  unfolding failing image_tests
+  refused_10 e = rw (e, failing) refl
 
   module _ (size : (lent && image_ok im) ≡ true) where
-    pub refused_11 : ends_in_halt im.code ≡ false → Checked.Refused 11 ≡ verdict (failing (image_tests lent im))
-    unfolding failing image_tests verdict
-    refused_11 e = rw (size, e, failing, verdict) refl
+    pub refused_11 : ends_in_halt im.code ≡ false → some 11 ≡ failing (image_tests lent im)
+    unfolding failing image_tests
+    refused_11 e = rw (size, e, failing) refl
 
     module _ (halts : ends_in_halt im.code ≡ true) where
-      pub refused_16 : below (length im.code) im.switches.entries ≡ false → Checked.Refused 16 ≡ verdict (failing (image_tests lent im))
-      unfolding failing image_tests verdict
-      refused_16 e = rw (size, halts, e, failing, verdict) refl
+      pub refused_16 : below (length im.code) im.switches.entries ≡ false → some 16 ≡ failing (image_tests lent im)
+      unfolding failing image_tests
+      refused_16 e = rw (size, halts, e, failing) refl
 
       pub word_by_word : below (length im.code) im.switches.entries ≡ true
-          → verdict (failing (word_tests (counts im) im.code)) ≡ verdict (failing (image_tests lent im))
+          → failing (word_tests (counts im) im.code) ≡ failing (image_tests lent im)
       unfolding failing image_tests
       word_by_word e = rw (size, halts, e, failing) refl

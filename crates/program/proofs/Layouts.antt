@@ -11,9 +11,8 @@ use lib.Seq.{get_or-take, length-take-le}
 use lib.Dec.{leb, eqb}
 use borrow.Author.Tests.{leb-true, eqb-true}
 use Rattle.memory.proofs.Tests.{both}
-use Rattle.op.specs.declared.Checked.{Checked}
 use Rattle.op.specs.declared.Counts.{Counts}
-use Rattle.program.specs.Image.{counts, rising, tables_fit, tables_ok, image_ok, word_tests, image_tests, failing, verdict}
+use Rattle.program.specs.Image.{counts, rising, tables_fit, tables_ok, image_ok, word_tests, image_tests, failing}
 use Rattle.program.specs.Words.{between, fits, cut, image_in, Ordered}
 use Rattle.program.proofs.Tables.{rising_to, rising_at, rising-on}
 use Rattle.program.proofs.Images.{refused_10}
@@ -92,9 +91,8 @@ module _ (ws : List ℕ) where
   unfit_10 f true = rw (f, failing) refl
   unfit_10 f false = refl
 
-  pub refused-unfit : fits ws ≡ false → (lent : Bool) → Checked.Refused 10 ≡ verdict (failing (image_tests lent (image_in ws)))
-  unfolding verdict
-  refused-unfit f lent = rw (unfit_10 f lent, verdict) refl
+  pub refused-unfit : fits ws ≡ false → (lent : Bool) → some 10 ≡ failing (image_tests lent (image_in ws))
+  refused-unfit f lent = sym (unfit_10 f lent)
 
   -- an image that passes its tests fits
   pub passed_fits : (lent : Bool) → failing (image_tests lent (image_in ws)) ≡ none → fits ws ≡ true
@@ -211,13 +209,13 @@ module _ (ws : List ℕ) (o : Ordered ws) where
     length-between (get_or ws 4 0) (get_or ws 5 0) ws (omega arith),
   ) refl
 
-  pub words_by : verdict (failing (word_tests counted (cut ws).code)) ≡ verdict (failing (word_tests (counts (cut ws)) (cut ws).code))
-  words_by = ap (λ (n : Counts). verdict (failing (word_tests n (cut ws).code))) counts_by
+  pub words_by : failing (word_tests counted (cut ws).code) ≡ failing (word_tests (counts (cut ws)) (cut ws).code)
+  words_by = ap (λ (n : Counts). failing (word_tests n (cut ws).code)) counts_by
 
 -- ---- an image of more words than its sections may have
 
 module _ (ws : List ℕ) (l : 79113 < length ws) where
-  pub too_long : (lent : Bool) → Checked.Refused 10 ≡ verdict (failing (image_tests lent (image_in ws)))
+  pub too_long : (lent : Bool) → some 10 ≡ failing (image_tests lent (image_in ws))
   too_long lent = by (fits ws) refl
     where
       -- its sections are not all as long as they may be
@@ -228,6 +226,6 @@ module _ (ws : List ℕ) (l : 79113 < length ws) where
           absurd (omega (arith, all_words ws f))
       unsized f false e = refl
 
-      by : (b : Bool) → fits ws ≡ b → Checked.Refused 10 ≡ verdict (failing (image_tests lent (image_in ws)))
+      by : (b : Bool) → fits ws ≡ b → some 10 ≡ failing (image_tests lent (image_in ws))
       by true f = rw (image-is ws f) (refused_10 lent (cut ws) (rw (unsized f _ refl) (and-false lent)))
       by false f = refused-unfit ws f lent

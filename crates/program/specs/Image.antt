@@ -1,10 +1,11 @@
 -- An image as it is lent: code, globals and tables, and what the loader and every run refuse of it. Definitions only.
-use Rattle.std.specs.Prelude.{ℕ, zero, suc, ◌-◌, ◌%◌, Bool, true, false, ◌&&◌, List, [], ◌∷◌, length, get_or, leb, ltb, eqb}
+use Rattle.std.specs.Prelude.{ℕ, zero, suc, ◌-◌, ◌%◌, Bool, true, false, ◌&&◌, List, [], ◌∷◌, length, get_or, leb, ltb, eqb, Result, Ok, Err}
 use Rattle.std.proofs.Math.Option.{Option, none, some}
 use Rattle.memory.specs.Lists.{part}
-use Rattle.op.specs.declared.Checked.{Checked}
+use Rattle.anomaly.specs.declared.Refusal.{Refusal}
+use Rattle.anomaly.specs.Table.{number_of_refusal}
 use Rattle.op.specs.declared.Counts.{Counts}
-use Rattle.op.specs.Reach.{check_of}
+use Rattle.op.specs.Reach.{Checked, check_of}
 
 -- tables of one kind as three lists: the first key of each, where the entries of each end, and all entries in a row
 pub record Tables : Type 0 where
@@ -89,8 +90,8 @@ below n (x ∷ xs) = ltb x n && below n xs
 
 -- 12 to 15, of one word
 unfoldable pub word_test : Checked → Test
-word_test Checked.Fine = test true 0
-word_test (Checked.Refused k) = test false k
+word_test (Ok x) = test true 0
+word_test (Err why) = test false (number_of_refusal why)
 
 unfoldable pub word_tests : Counts → List ℕ → List Test
 word_tests n [] = []
@@ -109,7 +110,7 @@ unfoldable pub failing : List Test → Option ℕ
 failing [] = none
 failing (t ∷ ts) = elim t.passes [ true ↦ failing ts | false ↦ some t.number ]
 
--- as the code answers it
-unfoldable pub verdict : Option ℕ → Checked
-verdict none = Checked.Fine
-verdict (some k) = Checked.Refused k
+-- the number by which the code refuses
+abbrev pub refused_with : {A : Type 0} → Result A Refusal → Option ℕ
+refused_with (Ok x) = none
+refused_with (Err why) = some (number_of_refusal why)

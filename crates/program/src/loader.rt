@@ -1,24 +1,17 @@
 // What a start and every run refuse of an image: the loader's tests.
 ghost use Rattle.std.specs.Prelude.{◌≡◌, true};
-ghost use Rattle.program.specs.Image.{rising, tables_fit, image_ok, ends_in_halt, below, word_tests, image_tests, failing, verdict};
+ghost use Rattle.program.specs.Image.{rising, tables_fit, image_ok, ends_in_halt, below, word_tests, image_tests, failing, refused_with};
 ghost use Rattle.program.specs.Words.{fits, cut, image_in, Ordered};
 
 use crate::{HEADER, LONGEST_IMAGE, MAX_CODE, MAX_ENTRIES, MAX_GLOBALS, MAX_TABLES};
 use anomaly::Refusal;
-use op::{Checked, Counts, Op};
+use op::{Counts, Op};
 
 // Whether all are below n.
 pub fn below(n: usize, xs: &[u64]) -> bool
     ensures { result ≡ below n xs.now }
 {
-    let mut i: usize = 0;
-    while i < xs.len() {
-        if n as u64 <= xs[i] {
-            return false;
-        }
-        i += 1;
-    }
-    true
+    xs.iter().all(|&x| x < n as u64)
 }
 
 // Whether the ends go up, from a start to the number of entries.
@@ -26,14 +19,11 @@ fn rising(start: u64, ends: &[u64], entries: usize) -> bool
     ensures { result ≡ rising start ends.now entries }
 {
     let mut from = start;
-    let mut i: usize = 0;
-    while i < ends.len() {
-        let end = ends[i];
+    for &end in ends {
         if end < from {
             return false;
         }
         from = end;
-        i += 1;
     }
     from == entries as u64
 }
@@ -56,18 +46,13 @@ fn ends_in_halt(code: &[u64]) -> bool
 }
 
 // The first word that is refused.
-fn words(code: &[u64], n: Counts) -> Checked
-    ensures { result ≡ verdict (failing (word_tests n code.now)) }
+fn words(code: &[u64], n: Counts) -> Result<(), Refusal>
+    ensures { refused_with result ≡ failing (word_tests n code.now) }
 {
-    let mut i: usize = 0;
-    while i < code.len() {
-        let r = op::check(code[i], n);
-        let Checked::Fine = r else {
-            return r;
-        };
-        i += 1;
+    for &w in code {
+        op::check(w, n)?;
     }
-    Checked::Fine
+    Ok(())
 }
 
 // 10, of an image whose sections fit. The ends of its tables are read once every section is as long as it may be.
@@ -112,9 +97,9 @@ fn sizes_ok(image: &[u64]) -> bool
 }
 
 // The number by which an image whose sections fit is refused.
-fn check_cut(image: &[u64]) -> Checked
+fn check_cut(image: &[u64]) -> Result<(), Refusal>
     requires { Ordered image.now }
-    ensures { result ≡ verdict (failing (image_tests true (cut image.now))) }
+    ensures { refused_with result ≡ failing (image_tests true (cut image.now)) }
 {
     let globals = image[0] as usize;
     let switch_firsts = image[1] as usize;
@@ -125,13 +110,13 @@ fn check_cut(image: &[u64]) -> Checked
     let code = &image[HEADER..globals];
     let targets = &image[from..to];
     if !sizes_ok(image) {
-        return Checked::Refused(Refusal::SIZE);
+        return Err(Refusal::Size);
     }
     if !ends_in_halt(code) {
-        return Checked::Refused(Refusal::NO_HALT);
+        return Err(Refusal::NoHalt);
     }
     if !below(code.len(), targets) {
-        return Checked::Refused(Refusal::TABLE_TARGET);
+        return Err(Refusal::TableTarget);
     }
     words(
         code,
@@ -156,17 +141,17 @@ fn fits(image: &[u64]) -> bool
 
 // The number by which an image is refused: 10, 11, 16, then word by word 12 to 15. `lent` is what 10 says of the buffers lent with it. Where a
 // length is outside the limits nothing is read.
-pub fn check(lent: bool, image: &[u64]) -> Checked
-    ensures { result ≡ verdict (failing (image_tests lent (image_in image.now))) }
+pub fn check(lent: bool, image: &[u64]) -> Result<(), Refusal>
+    ensures { refused_with result ≡ failing (image_tests lent (image_in image.now)) }
 {
     if !lent {
-        return Checked::Refused(Refusal::SIZE);
+        return Err(Refusal::Size);
     }
     if LONGEST_IMAGE < image.len() {
-        return Checked::Refused(Refusal::SIZE);
+        return Err(Refusal::Size);
     }
     if !fits(image) {
-        return Checked::Refused(Refusal::SIZE);
+        return Err(Refusal::Size);
     }
     check_cut(image)
 }

@@ -15,7 +15,6 @@ ghost use Rattle.run.specs.Loop.{Going, finished, finished_at, stored_pc, stored
 
 use anomaly::{Anomaly, End, Refusal, Steps};
 use instruction::{Position, Turn, apply};
-use op::Checked;
 use program::{HEADER, loader};
 use vm::{State, lent};
 
@@ -92,7 +91,10 @@ fn end_of(ending: u64, pc: usize, steps: Steps) -> End
     match ending {
         End::HALT => End::Halt { pc, steps },
         End::BUDGET => End::Budget { pc, steps },
-        _ => End::Stopped(Anomaly::from_number(ending, pc, steps)),
+        _ => match Anomaly::try_from(ending) {
+            Ok(why) => End::Stopped { why, pc, steps },
+            Err(_) => unreachable!(),
+        },
     }
 }
 
@@ -197,10 +199,9 @@ pub fn run(state: State, budget: Steps, image: &[u64], frames: &mut [u64], heap:
 {
     let gc = state.gc;
     let sizes = lent::frames_ok(frames.len()) & lent::heap_ok(gc.base, heap.len());
-    let checked = loader::check(sizes, image);
-    match checked {
-        Checked::Refused(k) => not_run(state, Refusal::from_number(k)),
-        Checked::Fine => {
+    match loader::check(sizes, image) {
+        Err(why) => not_run(state, why),
+        Ok(()) => {
             let end = image[0] as usize;
             let code = &image[HEADER..end];
             if !(lent::frames_belong(code.len(), state.depth, frames) & gc.sound(heap.len())) {

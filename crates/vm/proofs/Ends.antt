@@ -13,9 +13,9 @@ use lib.Dec.{leb, ltb, eqb, lit<}
 use borrow.Author.Tests.{leb-true, le-leb, ltb-true, eqb-true, ne_eqb}
 use Rattle.memory.proofs.Tests.{both}
 use Rattle.anomaly.specs.Table.{is_anomaly, is_refusal}
-use Rattle.op.specs.declared.Checked.{Checked}
+use Rattle.std.specs.Prelude.{Ok, Err}
 use Rattle.op.specs.declared.Counts.{Counts}
-use Rattle.op.specs.Reach.{check_of}
+use Rattle.op.specs.Reach.{Checked, check_of}
 use Rattle.vm.specs.Core.{Core, Sizes, used, short, set_frames}
 use Rattle.program.specs.Image.{Image, Test, test, image_ok, ends_in_halt, below, word_test, word_tests, counts, image_tests, failing}
 use Rattle.vm.specs.Run.{Step, next, halted, stop, step, after, go, root, entered}
@@ -73,13 +73,13 @@ module _ (L : Sizes) (im : Image) (k : Checks im) where
 
 -- ---- what the tests of a run leave
 
-word_fine : (x : Checked) → (word_test x).passes ≡ true → x ≡ Checked.Fine
+word_fine : (x : Checked) → (word_test x).passes ≡ true → x ≡ Ok tt
 unfolding word_test
-word_fine Checked.Fine h = refl
-word_fine (Checked.Refused k) h = absurd (true≢false (sym h))
+word_fine (Ok u) h = refl
+word_fine (Err why) h = absurd (true≢false (sym h))
 
 words_fine : (n : Counts) (ws : List ℕ) (rest : List Test) → failing (word_tests n ws ++ rest) ≡ none
-    → ((i : ℕ) → i < length ws → check_of n (get_or ws i 0) ≡ Checked.Fine) × (failing rest ≡ none)
+    → ((i : ℕ) → i < length ws → check_of n (get_or ws i 0) ≡ Ok tt) × (failing rest ≡ none)
 unfolding word_tests
 words_fine n [] rest h = (λ i l. absurd (not-suc-le-zero l), h)
 words_fine n (w ∷ ws) rest h =
@@ -87,8 +87,8 @@ words_fine n (w ∷ ws) rest h =
     let more = words_fine n ws rest here.1 in
     (λ i. at i (word_fine (check_of n w) here.0) more.0, more.1)
   where
-    at : (i : ℕ) → check_of n w ≡ Checked.Fine → ((j : ℕ) → j < length ws → check_of n (get_or ws j 0) ≡ Checked.Fine) → i < length (w ∷ ws)
-        → check_of n (get_or (w ∷ ws) i 0) ≡ Checked.Fine
+    at : (i : ℕ) → check_of n w ≡ Ok tt → ((j : ℕ) → j < length ws → check_of n (get_or ws j 0) ≡ Ok tt) → i < length (w ∷ ws)
+        → check_of n (get_or (w ∷ ws) i 0) ≡ Ok tt
     at zero f m l = f
     at (suc j) f m l = m j (le_of_suc-le-suc l)
 
@@ -137,7 +137,7 @@ module _ (im : Image) (b : ℕ) (m : Machine) (passed : failing (tests (run im b
     pub image : image_ok im ≡ true
     pub halts : ends_in_halt im.code ≡ true
     pub targets : below (length im.code) im.switches.entries ≡ true
-    pub words : (i : ℕ) → i < length im.code → check_of (counts im) (get_or im.code i 0) ≡ Checked.Fine
+    pub words : (i : ℕ) → i < length im.code → check_of (counts im) (get_or im.code i 0) ≡ Ok tt
     pub frames : frames_belong (length im.code) m.state m.lent ≡ true
     pub pages : pages_belong m.state m.lent ≡ true
 

@@ -10,7 +10,7 @@ use lib.ListN.{length, get_or, take}
 use lib.Dec.{eqb, leb}
 use borrow.Author.Tests.{lt-ltb, le-leb, eqb-true, eqb-false}
 use Rattle.anomaly.specs.Table.{is_anomaly}
-use Rattle.op.specs.declared.Checked.{Checked}
+use Rattle.std.specs.Prelude.{Ok}
 use Rattle.op.specs.Decode.{decode_of}
 use Rattle.op.specs.Reach.{check_of}
 use Rattle.effects.specs.declared.Effect.{Effect}
@@ -40,7 +40,7 @@ writable n effect.Halt o = tt
 
 -- ---- the word at the pc
 
-pub word_ok : (im : Image) (r : List ℕ) (w : ℕ) → Checks im → check_of (counts im) w ≡ Checked.Fine
+pub word_ok : (im : Image) (r : List ℕ) (w : ℕ) → Checks im → check_of (counts im) w ≡ Ok tt
     → EffectOk (length im.code) (word_effect im r (decode_of w))
 word_ok im r w k h = asks_ok im r k.targets w h
 

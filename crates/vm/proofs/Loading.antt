@@ -7,23 +7,19 @@ use mathlib.Core.List.{List}
 use native.Mathlib.Omega.{arith}
 use lib.ListN.{length, set}
 use Rattle.memory.specs.Lists.{over}
-use Rattle.anomaly.specs.Table.{is_refusal}
 use Rattle.memory.proofs.Tests.{both}
 use Rattle.gc.specs.declared.Gc.{Gc}
 use Rattle.std.specs.Prelude as std
 use Rattle.gc.specs.Lent.{page_size, Outcome, outcome, numbers_of, InHeap}
-use Rattle.op.specs.declared.Checked.{Checked}
 use Rattle.vm.specs.declared.State.{State}
-use Rattle.program.specs.Image.{Image, test, image_ok, image_tests, failing, verdict}
+use Rattle.program.specs.Image.{Image, test, image_ok, image_tests, failing}
 use Rattle.vm.specs.Machine.{Lent, unlent, Machine, lend_begin, keep_depth, keep_gc, done, refused, traced, with_pages, with_frames, unset, frames_ok, heap_ok, first_memory}
 use Rattle.vm.specs.Machine.{blank, begin, starts, buffers_ok, start}
 use Rattle.vm.specs.Told.{machine_of, started_on}
 use Rattle.program.proofs.Tests.{failing-cons}
-use Rattle.vm.proofs.Refusals.{failing_numbered, image_alone}
 use Rattle.vm.proofs.Buffers.{frames_room, heap_room, heap-low}
 use Rattle.vm.proofs.Replies.{over_first}
 use Rattle.vm.proofs.Boxes.{bare}
-use Rattle.vm.proofs.Ends.{refusal_numbered}
 
 -- ---- the first box granted, and frame 0
 
@@ -46,26 +42,6 @@ module _ (base : ℕ) (l : Lent) (r : std.Option ℕ) (g : Gc) (x : List ℕ)
       rw (b, n, ap (λ (o : Outcome). o.heap) e, over_first) refl
 
 -- ---- the tests
-
-module _ (lent : Bool) (im : Image) where
-  pub verdict-refused : (k : ℕ) → Checked.Refused k ≡ verdict (failing (image_tests lent im)) → failing (image_tests lent im) ≡ some k
-  unfolding verdict
-  verdict-refused k h = by (failing (image_tests lent im)) refl (unfold verdict in h)
-    where
-      by : (o : Option ℕ) → failing (image_tests lent im) ≡ o → Checked.Refused k ≡ verdict o → failing (image_tests lent im) ≡ some k
-      by none e q = cc
-      by (some n) e q = let z : k ≡ n = cc in rw z e
-
-  pub verdict_fine : Checked.Fine ≡ verdict (failing (image_tests lent im)) → failing (image_tests lent im) ≡ none
-  unfolding verdict
-  verdict_fine h = by (failing (image_tests lent im)) refl (unfold verdict in h)
-    where
-      by : (o : Option ℕ) → failing (image_tests lent im) ≡ o → Checked.Fine ≡ verdict o → failing (image_tests lent im) ≡ none
-      by none e q = e
-      by (some n) e q = cc
-
-  pub refused-listed : (k : ℕ) → failing (image_tests lent im) ≡ some k → is_refusal k ≡ true
-  refused-listed k f = refusal_numbered k (failing_numbered _ k (image_alone lent im) f)
 
 module _ (im : Image) (base : ℕ) (l : Lent) where
   pub start-refused : (k r : ℕ) (m : Machine) → failing (image_tests (buffers_ok base l) im) ≡ some k → r ≡ k → m ≡ blank base l

@@ -12,9 +12,10 @@ use Rattle.str_table.specs.Sound as Table
 use Rattle.gc.specs.declared.Gc.{Gc}
 use Rattle.gc.specs.Lent.{numbers_of}
 use Rattle.gc.specs.Lent as Heap
-use Rattle.op.specs.declared.Checked.{Checked}
+use Rattle.std.specs.Prelude.{Ok, Err}
+use Rattle.anomaly.specs.Table.{number_of_refusal}
 use Rattle.op.specs.declared.Counts.{Counts}
-use Rattle.op.specs.Reach.{check_of}
+use Rattle.op.specs.Reach.{Checked, check_of}
 use Rattle.op.proofs.Sound.{check_refuses}
 use Rattle.vm.specs.declared.State.{State}
 use Rattle.vm.specs.Core.{Core, Memory, Sizes, used}
@@ -141,8 +142,8 @@ tests_are n (host (intern_small z w)) c m h = rw (legal_heap n c m h, legal_slot
 module _ (P : ℕ → Type 0) (word : (k : ℕ) → (12 ≤ k) × (k ≤ 15) → P k) where
   word_each : (n : Counts) (w : ℕ) (x : Checked) → check_of n w ≡ x → (word_test x).passes ≡ false → P (word_test x).number
   unfolding word_test
-  word_each n w Checked.Fine e h = absurd (true≢false h)
-  word_each n w (Checked.Refused k) e h = word k (check_refuses n w k e)
+  word_each n w (Ok u) e h = absurd (true≢false h)
+  word_each n w (Err why) e h = word (number_of_refusal why) (check_refuses n w why e)
 
   words_each : (n : Counts) (ws : List ℕ) → Each P (word_tests n ws)
   unfolding word_tests

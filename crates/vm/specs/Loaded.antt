@@ -1,6 +1,5 @@
 -- An image whose tests have passed, and what holds of its instructions and of the frames in use. Definitions only.
-use Rattle.std.specs.Prelude.{ℕ, ◌+◌, ◌-◌, ◌%◌, ◌^◌, ◌≤◌, ◌<◌, true, ◌≡◌, List, [], ◌∷◌, length, get_or}
-use Rattle.op.specs.declared.Checked.{Checked}
+use Rattle.std.specs.Prelude.{ℕ, ◌+◌, ◌-◌, ◌%◌, ◌^◌, ◌≤◌, ◌<◌, true, ◌≡◌, List, [], ◌∷◌, length, get_or, Ok}
 use Rattle.op.specs.Reach.{check_of}
 use Rattle.effects.specs.declared.Effect.{Effect}
 use Rattle.effects.specs.declared.Effect.TheVariants as effect
@@ -14,7 +13,7 @@ Returns n (f ∷ fs) = ((f + 1) % 2 ^ 64 < n) × Returns n fs
 -- an image whose tests have passed
 pub record Checks (im : Image) : Type 0 where
   pub targets : below (length im.code) im.switches.entries ≡ true
-  pub words : (i : ℕ) → i < length im.code → check_of (counts im) (get_or im.code i 0) ≡ Checked.Fine
+  pub words : (i : ℕ) → i < length im.code → check_of (counts im) (get_or im.code i 0) ≡ Ok tt
   pub ends : get_or im.code (length im.code - 1) 0 % 256 ≡ 59
 
 pub record Loaded (im : Image) : Type 0 where

@@ -4,7 +4,7 @@ use Rattle.std.specs.Prelude as std
 use Rattle.std.proofs.Math.Option.{Option, none, some}
 use Rattle.anomaly.specs.declared.Refusal.{Refusal}
 use Rattle.anomaly.specs.declared.End.{End}
-use Rattle.anomaly.specs.Table.{number_of_anomaly, pc_of_anomaly, steps_of_anomaly, number_of_refusal}
+use Rattle.anomaly.specs.Table.{number_of_anomaly, number_of_refusal}
 use Rattle.str_table.specs.declared.StrTable.{StrTable}
 use Rattle.gc.specs.declared.Gc.{Gc}
 use Rattle.gc.specs.Pages.{Block}
@@ -66,5 +66,5 @@ started_on (begun m) base l = record { answer = done; machine = m }
 unfoldable pub answer_of : End → Answer
 answer_of (End.Halt pc steps) = ended 0 pc steps
 answer_of (End.Budget pc steps) = ended 5 pc steps
-answer_of (End.Stopped why) = ended (number_of_anomaly why) (pc_of_anomaly why) (steps_of_anomaly why)
+answer_of (End.Stopped why pc steps) = ended (number_of_anomaly why) pc steps
 answer_of (End.Refused why) = refused (number_of_refusal why)

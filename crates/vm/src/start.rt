@@ -6,9 +6,7 @@ ghost use Rattle.vm.specs.Machine.{Lent, lend_begin, blank, begin, start};
 ghost use Rattle.vm.specs.Told.{lent_of, machine_of, told, started_on};
 
 use crate::{Called, Reply, State, UNSET, boxed, lent};
-use anomaly::Refusal;
 use gc::Gc;
-use op::Checked;
 use program::loader;
 use str_table::StrTable;
 
@@ -61,12 +59,11 @@ pub fn start(
 {
     let sizes = lent::frames_ok(frames.len())
         & (lent::heap_ok(base, heap.len()) & lent::slots_ok(slots.len(), spare.len()));
-    let checked = loader::check(sizes, image);
-    match checked {
-        Checked::Refused(k) => blank(base).refused(Refusal::from_number(k)),
-        Checked::Fine => Called {
+    match loader::check(sizes, image) {
+        Ok(()) => Called {
             reply: Reply::Done,
             state: begin(base, frames, heap),
         },
+        Err(why) => blank(base).refused(why),
     }
 }

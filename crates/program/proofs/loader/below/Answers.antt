@@ -1,16 +1,11 @@
--- `program::loader::below` meets its contract. Assumes nothing.
-use mathlib.Core.Path.{refl}
-use Rattle.program.proofs.Images.{below_fails, below_on, below_end}
+-- `program::loader::below` meets its contract: it is `all` of the test. Assumes nothing.
+use Rattle.std.proofs.Common.{◌∙◌, ltb, rules}
+use Rattle.std.proofs.lemmas.Iterator.{YieldsList-from_slice}
+use Rattle.std.proofs.lemmas.Iterator.Search.{all_from_yields_List}
+use Rattle.program.proofs.Images.{below_all}
 use Rattle.program.proofs.loader.below.Goals as goal
 
-pub loop-i-init : goal.loop-i-init
-loop-i-init c = refl
-
-pub returns-then-n-xs : goal.returns-then-n-xs
-returns-then-n-xs c = below_fails _ _ _ c.loop-i.invariant c.loop-i-test.true c.if-n-xs.true
-
-pub loop-i-preserved : goal.loop-i-preserved
-loop-i-preserved c = below_on _ _ _ c.loop-i.invariant c.loop-i-test.true c.if-n-xs.false
-
 pub returns : goal.returns
-returns c = below_end _ _ _ c.loop-i.invariant c.loop-i-test.false
+returns c =
+    all_from_yields_List (λ x. ltb x c.args.n) _ _ _ c.all.ensures.ran (YieldsList-from_slice c.args.xs.now cc) (λ x b q k. search (rules))
+    ∙ below_all c.args.n c.args.xs.now

@@ -1,16 +1,16 @@
 -- `program::loader::rising` meets its contract. Assumes nothing.
-use mathlib.Core.Path.{refl}
+use Rattle.std.proofs.Common.{refl}
 use Rattle.program.proofs.Images.{rising_fails, rising-on, rising-end}
 use Rattle.program.proofs.loader.rising.Goals as goal
 
-pub loop-i-init : goal.loop-i-init
-loop-i-init c = refl
+pub loop-end-init : goal.loop-end-init
+loop-end-init c = refl
 
 pub returns-then-end-from : goal.returns-then-end-from
-returns-then-end-from c = rising_fails _ _ _ _ _ c.loop-i.invariant c.loop-i-test.true c.if-end-from.true
+returns-then-end-from c = rising_fails _ _ _ _ _ c.loop-end.invariant c.loop-end-test.true c.if-end-from.true
 
-pub loop-i-preserved : goal.loop-i-preserved
-loop-i-preserved c = rising-on _ _ _ _ _ c.loop-i.invariant c.loop-i-test.true c.if-end-from.false
+pub loop-end-preserved : goal.loop-end-preserved
+loop-end-preserved c = rising-on _ _ _ _ _ c.loop-end.invariant c.loop-end-test.true c.if-end-from.false
 
 pub returns : goal.returns
-returns c = rising-end _ _ _ _ _ c.loop-i.invariant c.loop-i-test.false
+returns c = rising-end _ _ _ _ _ c.loop-end.invariant c.loop-end-test.false

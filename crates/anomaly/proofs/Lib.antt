@@ -1,2 +1,0 @@
--- Laws of the numbers of ends and refusals.
-pub mod Numbers
