@@ -2,15 +2,13 @@
 #![tactic(auto)]
 
 ghost use Rattle.std.specs.Prelude.{◌≡◌, ◌≤◌, length};
-ghost use Rattle.text.specs.Lines.{lines_of};
-ghost use Rattle.text.specs.Names.{names_of};
+ghost use Rattle.text.specs.Names.{names_in};
 ghost use Rattle.text.specs.Sections.{section_in};
 ghost use Rattle.vm.specs.Machine.{Lent, lend_names};
 ghost use Rattle.vm.specs.Told.{machine_of, told};
 ghost use Rattle.image_names.specs.Named.{intern_all};
 
-use text::names as text_names;
-use text::names::Named;
+use text::names::Names;
 use text::sections::Section;
 use vm::{Called, Reply, State};
 
@@ -32,25 +30,22 @@ pub fn intern_names(
           called = told result (lend_names heap.new slots.new spare.new l);
           globals = globals.new;
         }
-        ≡ intern_all (names_of 0 (lines_of input.now))
+        ≡ intern_all (names_in input.now)
         (machine_of state (lend_names heap.old slots.old spare.old l)) globals.old }
 {
     let mut s = state;
-    let mut i: usize = 0;
-    loop {
-        let Named::At { global, len } = text_names::name(input, i, name) else {
-            return Called {
-                reply: Reply::Done,
-                state: s,
-            };
-        };
+    for named in Names::of(input) {
+        let len = named.put_bytes(name);
         let called = names::intern(s, &name[..len], heap, slots, spare);
         let reply = called.reply;
         let Reply::Value(v) = reply else {
             return called;
         };
-        globals[global] = v;
+        globals[named.global] = v;
         s = called.state;
-        i += 1;
+    }
+    Called {
+        reply: Reply::Done,
+        state: s,
     }
 }

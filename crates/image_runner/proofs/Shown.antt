@@ -7,9 +7,8 @@ use mathlib.Core.List.{List, [], ◌∷◌}
 use mathlib.Core.Logic.{inl, inr}
 use Rattle.anomaly.specs.Table.{is_refusal}
 use Rattle.text.specs.declared.Head.{Head}
-use Rattle.text.specs.Lines.{lines_of}
 use Rattle.text.specs.Text.{text_ok, head_of}
-use Rattle.text.specs.Names.{Name, names_of}
+use Rattle.text.specs.Names.{Name, names_in}
 use Rattle.text.specs.Sections.{section_in}
 use Rattle.report.specs.Report.{refusal_of}
 use Rattle.program.specs.Image.{Image}
@@ -61,7 +60,7 @@ names-shown im b m (ended e pc steps) n = absurd n
 start-shown : (s : List ℕ) (h : Head) (x : Started) → StartAnswer x → Shown h.budget (started_text s h x)
 unfolding started_text reply_text
 start-shown s h (declined e) n = inl (refuses e n)
-start-shown s h (begun m) n = names-shown _ h.budget _ _ (names-answer (names_of 0 (lines_of s)) m (section_in _ s))
+start-shown s h (begun m) n = names-shown _ h.budget _ _ (names-answer (names_in s) m (section_in _ s))
 
 -- any input: its text is refused by a number, or comes to a listed end within the budget that its header says
 pub answer-shown : (s : List ℕ) → Shown (head_of s).budget (answer_of s)

@@ -107,7 +107,7 @@ unfolding rows hold_lists singles naming allocating nine_pages digits worked byt
     Names.fresh Names.known Names.interned sizes memory_of view with_pages with_names traced with_frames with_regs ran idle runs hosted laid
     run_leaves host_leaves granted host_call run_call act frames_ok heap_ok slots_ok returns_ok frames_belong pages_belong names_belong tests tests_by failing
     tried perform first_page first_memory blank begin starts start Digits.value_of_digit Digits.all_digits Digits.read_on Digits.numbers
-    Lines.before Lines.lines_of Lines.up_to Lines.count_ok Lines.line_ok rest_ok lines_ok text_ok head_in head_of adds section_of names_of digit_of_value
+    Lines.before Lines.lines_of Lines.whole Lines.up_to Lines.count_ok Lines.line_ok rest_ok lines_ok text_ok head_in head_of adds section_of names_of digit_of_value
     hex_of end_line register_line register_lines state_line report_of refusal_of sections_fit room_for intern_on intern_all reply_text run_text ready_text
     started_text image_text answer_of
 all_hold = refl

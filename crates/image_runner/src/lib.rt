@@ -13,7 +13,7 @@ use program::HEADER;
 use rating::rate;
 use report::{Text, refusal_text};
 use text::sections::Section;
-use text::{Head, Reading, sections};
+use text::{Head, sections};
 
 // The runner's own limits of pages, words and frames; the machine's of slots, globals, tables and entries.
 const MAX_PAGES: u64 = 8;
@@ -110,8 +110,8 @@ fn image_text(input: &[u8], head: Head) -> Text
 pub fn answer(input: &[u8]) -> Text
     ensures { result.bytes ≡ answer_of input.now }
 {
-    let Reading::Image(head) = text::read(input) else {
-        return refusal_text(Refusal::Text);
-    };
-    image_text(input, head)
+    match text::read(input) {
+        Ok(head) => image_text(input, head),
+        Err(why) => refusal_text(why),
+    }
 }

@@ -2,14 +2,16 @@
 use mathlib.Core.Path.{◌≡◌, refl, sym, ap, ◌∙◌}
 use Prim.Native.Nat.{ℕ, zero, suc, ◌+◌, ◌-◌, ◌≤◌, ◌<◌}
 use mathlib.Core.Bool.{true}
-use mathlib.Core.List.{List, [], ◌∷◌, ◌++◌, append_assoc, append-nil}
+use mathlib.Core.List.{List, [], ◌∷◌, ◌++◌, map, append_assoc}
 use native.Mathlib.Omega.{arith}
 use native.Mathlib.Nat.{add-zero, add_assoc}
-use lib.ListN.{length, get_or, take, drop, length-append, length-drop}
-use lib.Seq.{take-append_seam, take-append-add, take_at, drop_at, length-take-le}
+use native.Mathlib.Numerals.{add-one}
+use lib.ListN.{length, get_or, set, take, drop, length-append, length-drop, length-set, drop_of_length-le}
+use lib.Seq.{drop-cons, take-append_seam, take-append-add, take_at, drop_at, length-take-le}
 use borrow.Author.Tests.{le-leb, eq-eqb}
 use Rattle.memory.specs.Lists.{over, write, Written}
-use Rattle.memory.proofs.Over.{tail_returned, length-write, take-over, over-is, write-is, write-append, sets_write}
+use Rattle.memory.proofs.Writes.{write-behind}
+use Rattle.memory.proofs.Over.{tail_returned, length-write, set-write, take-over, over-is, write-is, sets_write}
 use Rattle.program.specs.Image.{Image, tables_of, image_of, rising}
 use Rattle.program.specs.Words.{between, fits, cut, image_in, Ordered}
 use Rattle.program.proofs.Layouts.{image-is, ordered}
@@ -103,21 +105,6 @@ globals_replaced im g a k e first size =
 
 -- ---- as the sections are put
 
--- these are written from place 9 on, up to the place at
-pub record Laid (ws₀ xs : List ℕ) (at : ℕ) (ws : List ℕ) : Type 0 where
-  pub ends_at : at ≡ 9 + length xs
-  pub is : ws ≡ write 9 xs ws₀
-
-pub laid_first : (ws : List ℕ) → Laid ws [] 9 ws
-laid_first ws = record { ends_at = refl; is = sets_write [] ws 9 }
-
-pub laid_more : {ws₀ xs : List ℕ} {at : ℕ} {ws s ws' : List ℕ} {r : ℕ} → Laid ws₀ xs at ws → Written ws at s ws' r → Laid ws₀ (xs ++ s) r ws'
-laid_more {ws₀} {xs} {at} {ws} {s} {ws'} {r} l w =
-    record {
-      ends_at = w.ends ∙ rw (l.ends_at, length-append xs s) (omega arith);
-      is = w.is ∙ rw (l.ends_at, l.is) (write-append 9 xs s ws₀);
-    }
-
 laid_out : (front xs ws₀ : List ℕ) → length front ≡ 9 → 9 + length xs ≤ length ws₀ → take (9 + length xs) (over front (write 9 xs ws₀)) ≡ front ++ xs
 laid_out front xs ws₀ e room =
     let nine-there : length (take 9 ws₀) ≡ 9 = length-take-le 9 ws₀ (omega arith) in
@@ -128,32 +115,83 @@ laid_out front xs ws₀ e room =
     rw e at (take-append-add front (over xs (drop 9 ws₀)) (length xs)) in
     ap (λ (y : List ℕ). take (9 + length xs) y) is ∙ back ∙ rw (take-over xs (drop 9 ws₀) (rw length-drop (omega arith))) refl
 
-module _ (a b c d e f g h k : List ℕ) where
-  pub ends_nine : {r0 r1 r2 r3 r4 r5 r6 r7 r8 : ℕ} → r0 ≡ 9 + length a → r1 ≡ r0 + length b → r2 ≡ r1 + length c → r3 ≡ r2 + length d
-      → r4 ≡ r3 + length e → r5 ≡ r4 + length f → r6 ≡ r5 + length g → r7 ≡ r6 + length h → r8 ≡ r7 + length k
-      → (r0 ∷ r1 ∷ r2 ∷ r3 ∷ r4 ∷ r5 ∷ r6 ∷ r7 ∷ r8 ∷ []) ≡ ends 9 (a ∷ b ∷ c ∷ d ∷ e ∷ f ∷ g ∷ h ∷ k ∷ [])
-  unfolding ends
-  ends_nine p0 p1 p2 p3 p4 p5 p6 p7 p8 = rw (p8, p7, p6, p5, p4, p3, p2, p1, p0) refl
-
-  pub flat_nine : ((((((((a ++ b) ++ c) ++ d) ++ e) ++ f) ++ g) ++ h) ++ k) ≡ flat (a ∷ b ∷ c ∷ d ∷ e ∷ f ∷ g ∷ h ∷ k ∷ [])
-  unfolding flat
-  flat_nine = simp (append_assoc, append-nil)
-
 pub joined-size : (im : Image) → length (joined im) ≡ 9 + length im.code + length im.globals + length im.switches.firsts
     + length im.switches.ends + length im.switches.entries + length im.lookups.firsts + length im.lookups.ends
     + length im.lookups.entries + length im.defaults
 unfolding flat
 joined-size im = joined_long im ∙ simp (length-append) (omega arith)
 
-pub joined-there : (im : Image) {ws₀ ws ws' xs es : List ℕ} {r : ℕ} → Laid ws₀ xs r ws → xs ≡ flat (sections_of im) → es ≡ ends 9 (sections_of im)
-    → ws' ≡ over es ws → length (joined im) ≤ length ws₀ → (r ≡ length (joined im)) × (take r ws' ≡ joined im)
-unfolding joined
-joined-there im {ws₀} {ws} {ws'} {xs} {es} {r} l x e w room =
-    let long = joined_long im in
-    let at : r ≡ 9 + length (flat (sections_of im)) = l.ends_at ∙ rw x refl in (
-      at ∙ sym long,
-      rw (at, w, e, l.is, x) (laid_out (ends 9 (sections_of im)) (flat (sections_of im)) ws₀ (nine im) (omega (arith, long, room))),
-    )
+-- a number set in front of what is written
+set-below : (i e v : ℕ) (xs ws : List ℕ) → i < e → write e xs (set ws i v) ≡ set (write e xs ws) i v
+unfolding write
+set-below i zero v xs ws h = absurd (omega arith)
+set-below i (suc e) v xs [] h = refl
+set-below zero (suc e) v xs (y ∷ ws) h = refl
+set-below (suc i) (suc e) v xs (y ∷ ws) h = ap (λ (r : List ℕ). y ∷ r) (set-below i e v xs ws (omega arith))
+
+-- of what is made of the items from the i-th on
+module _ {A : Type 0} (f : A → List ℕ) (items : List A) (i : ℕ) where
+  pub items_step : (d : A) → i < length items → map f (drop i items) ≡ f (get_or items i d) ∷ map f (drop (i + 1) items)
+  items_step d h = rw (add-one, drop-cons items i d h) refl
+
+  pub items_end : length items ≤ i → map f (drop i items) ≡ []
+  items_end h = rw (drop_of_length-le items h) refl
+
+-- i sections are put, up to the place end, with their ends in front; these are left
+pub record Joining (im : Image) (before : List ℕ) (left : List (List ℕ)) (i end : ℕ) (words : List ℕ) : Type 0 where
+  pub as_many : i + length left ≡ 9
+  pub behind : 9 ≤ end
+  pub count : end + length (flat left) ≡ 9 + length (flat (sections_of im))
+  pub long : length words ≡ length before
+  pub rest : write i (ends end left) (write end (flat left) words) ≡ write 0 (ends 9 (sections_of im)) (write 9 (flat (sections_of im)) before)
+
+pub joining_start : (im : Image) (before : List ℕ) → Joining im before (sections_of im) 0 9 before
+joining_start im before = record { as_many = refl; behind = omega arith; count = refl; long = refl; rest = refl }
+
+module _ {im : Image} {before : List ℕ} {left : List (List ℕ)} {i end : ℕ} {words : List ℕ} (g : Joining im before left i end words)
+    (room : length (joined im) ≤ length before) where
+  all-counted : left ≡ [] → end ≡ 9 + length (flat (sections_of im))
+  unfolding flat
+  all-counted e = omega (arith, g.count, ap (λ (ss : List (List ℕ)). length (flat ss)) e)
+
+  all-put : left ≡ [] → words ≡ over (ends 9 (sections_of im)) (write 9 (flat (sections_of im)) before)
+  unfolding ends flat write
+  all-put e =
+      let rest : write i [] (write end [] words) ≡ write 0 (ends 9 (sections_of im)) (write 9 (flat (sections_of im)) before) = rw e at g.rest in
+      sets_write [] words end ∙ sets_write [] (write end [] words) i ∙ rest
+
+  pub joined-all : left ≡ [] → (end ≡ length (joined im)) × (take end words ≡ joined im)
+  unfolding joined
+  joined-all e = (
+    all-counted e ∙ sym (joined_long im),
+    rw (all-counted e, all-put e) (laid_out (ends 9 (sections_of im)) (flat (sections_of im)) before (nine im) (omega (arith, room, joined_long im))),
+  )
+
+  module _ {s : List ℕ} {more : List (List ℕ)} (step : left ≡ s ∷ more) where
+    behind_step : length (flat left) ≡ length s + length (flat more)
+    unfolding flat
+    behind_step = ap (λ (ss : List (List ℕ)). length (flat ss)) step ∙ length-append s (flat more)
+
+    pub section_within : end + length s ≤ length words
+    section_within = omega (arith, g.count, g.long, behind_step, joined_long im)
+
+    pub place_within : i < 9
+    place_within = omega (arith, g.as_many, ap (λ (ss : List (List ℕ)). length ss) step)
+
+    pub joining_next : {after : List ℕ} {r : ℕ} → Written words end s after r → Joining im before more (i + 1) r (set after i r)
+    unfolding ends flat
+    joining_next {after} {r} w =
+        let here : i < r = omega (arith, place_within, g.behind, w.ends) in
+        let put : write r (flat more) after ≡ write end (s ++ flat more) words = write-behind words after end r s (flat more) w in
+        let rest : write i ((end + length s) ∷ ends (end + length s) more) (write end (s ++ flat more) words)
+        ≡ write 0 (ends 9 (sections_of im)) (write 9 (flat (sections_of im)) before) = rw step at g.rest in
+        record {
+          as_many = omega (arith, g.as_many, ap (λ (ss : List (List ℕ)). length ss) step);
+          behind = omega (arith, g.behind, w.ends);
+          count = omega (arith, g.count, behind_step, w.ends);
+          long = length-set after i r ∙ ap (λ (x : List ℕ). length x) w.is ∙ length-write end s words ∙ g.long;
+          rest = rw (set-below i r r (flat more) after here, put, add-one, set-write i r (ends r more) (write end (s ++ flat more) words), w.ends) rest;
+        }
 
 -- a section as it is put: the tail that was lent comes back
 pub section_put : {ws got s : List ℕ} {at n : ℕ} → n ≡ length s → got ≡ over s (take (length ws - at) (drop at ws)) → at ≤ length ws

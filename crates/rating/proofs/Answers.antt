@@ -10,10 +10,9 @@ use borrow.Author.Tests.{leb-true}
 use Rattle.memory.proofs.Tests.{both}
 use Rattle.text.specs.declared.Head.{Head}
 use Rattle.text.specs.declared.sections.Section.TheVariants.{Globals}
-use Rattle.text.specs.Lines.{lines_of}
 use Rattle.text.specs.Text.{text_ok}
 use Rattle.text.specs.Sections.{section_in}
-use Rattle.text.specs.Names.{names_of}
+use Rattle.text.specs.Names.{names_in}
 use Rattle.program.specs.Image.{Image}
 use Rattle.program.specs.Words.{image_in}
 use Rattle.vm.specs.Machine.{Lent, Machine, Answer, done, Called, run, perform, Started, declined, begun, start}
@@ -42,7 +41,7 @@ module _ (s : List ℕ) (h : Head) (base : ℕ) (l : Lent) where
   started-refused (begun k) a m q n = absurd (n (ap (λ (c : Called). c.answer) q))
 
   pub started-done : (x : Started) (m : Machine) → record { answer = done; machine = m } ≡ started_on x base l
-      → named_text s h (intern_all (names_of 0 (lines_of s)) m (section_in Globals s)) ≡ started_text s h x
+      → named_text s h (intern_all (names_in s) m (section_in Globals s)) ≡ started_text s h x
   unfolding started_on started_text
   started-done (declined e) m q = let z : ◌≡◌ {A = ℕ} 0 1 = cc (ap (λ (c : Called). c.answer) q) in absurd (omega arith)
   started-done (begun n) m q = let z : m ≡ n = ap (λ (c : Called). c.machine) q in rw z refl
@@ -80,13 +79,13 @@ module _ (s : List ℕ) (h : Head) (base : ℕ) (l : Lent) (x : Started) (r : Re
   start-says n = started-refused s h base l x (said_of r) m begins n
 
   module _ (d : said_of r ≡ done) (globals : List ℕ) (g : globals ≡ section_in Globals s) (r' : Reply) (m' : Machine) (g' : List ℕ)
-      (names : record { called = record { answer = said_of r'; machine = m' }; globals = g' } ≡ intern_all (names_of 0 (lines_of s)) m globals) where
-    named : named_text s h (intern_all (names_of 0 (lines_of s)) m (section_in Globals s)) ≡ started_text s h x
+      (names : record { called = record { answer = said_of r'; machine = m' }; globals = g' } ≡ intern_all (names_in s) m globals) where
+    named : named_text s h (intern_all (names_in s) m (section_in Globals s)) ≡ started_text s h x
     named = started-done s h base l x m (rw d at begins)
 
     entered : record { called = record { answer = said_of r'; machine = m' }; globals = g' }
-        ≡ intern_all (names_of 0 (lines_of s)) m (section_in Globals s)
-    entered = names ∙ ap (λ (y : List ℕ). intern_all (names_of 0 (lines_of s)) m y) g
+        ≡ intern_all (names_in s) m (section_in Globals s)
+    entered = names ∙ ap (λ (y : List ℕ). intern_all (names_in s) m y) g
 
     pub names_say : (im : Image) → im ≡ image_with g' s → (b : ℕ) → b ≡ h.budget → ready_text (said_of r') im b m' ≡ started_text s h x
     names_say im i b n = rw (i, n) (ap (named_text s h) entered ∙ named)

@@ -3,9 +3,8 @@ use Rattle.std.specs.Prelude.{ℕ, ◌*◌, List, replicate}
 use Rattle.gc.specs.Lent.{page_size}
 use Rattle.text.specs.declared.Head.{Head}
 use Rattle.text.specs.declared.sections.Section.TheVariants.{Globals}
-use Rattle.text.specs.Lines.{lines_of}
 use Rattle.text.specs.Sections.{section_in}
-use Rattle.text.specs.Names.{names_of}
+use Rattle.text.specs.Names.{names_in}
 use Rattle.program.specs.Image.{Image}
 use Rattle.vm.specs.Machine.{Lent, Machine, Answer, ended, value, done, refused, run, perform, Started, declined, begun}
 use Rattle.vm.specs.Told.{lent_of}
@@ -32,4 +31,4 @@ named_text s h x = ready_text x.called.answer (image_with x.globals s) h.budget 
 -- 'An image is loaded or refused before its names are interned'
 unfoldable pub started_text : List ℕ → Head → Started → List ℕ
 started_text s h (declined e) = reply_text (refused e)
-started_text s h (begun m) = named_text s h (intern_all (names_of 0 (lines_of s)) m (section_in Globals s))
+started_text s h (begun m) = named_text s h (intern_all (names_in s) m (section_in Globals s))

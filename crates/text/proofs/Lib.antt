@@ -1,8 +1,12 @@
--- The laws of digits, of lines, of what is refused, and of sections.
+-- Laws of the texts of images.
 pub mod Numbers
 pub mod Splitting
-pub mod WellFormed
-pub mod Gathering
+pub mod Sizes
 pub mod Naming
-pub mod Indices
+pub mod Entries
+pub mod Laying
+pub mod WellFormed
+pub mod Counting
+pub mod Gathering
 pub mod Tables
+pub mod Listing

@@ -1,73 +1,49 @@
--- Digits read one by one: each law is a turn or the end of a loop. Assumes nothing.
-use Prim.Native.Nat.{ℕ, zero, suc, ◌+◌, ◌-◌, ◌*◌, ◌%◌, ◌^◌, ◌<◌, ◌≤◌}
-use mathlib.Core.Path.{◌≡◌, refl}
-use mathlib.Core.Bool.{Bool, true, false}
-use mathlib.Core.List.{List, [], ◌∷◌}
-use lib.ListN.{length, take, drop, get_or, drop_of_length-le}
-use lib.Seq.{drop-cons, take-nil}
-use lib.Pow.{pow_mono, pow-add, pow_pos}
+-- Digits and the numbers that they say. Assumes nothing.
+use Prim.Native.Nat.{ℕ, zero, suc, ◌+◌, ◌*◌, ◌%◌, ◌^◌, ◌<◌, ◌≤◌}
+use mathlib.Core.Path.{◌≡◌, refl, sym, ap, ◌∙◌}
+use mathlib.Core.Bool.{Bool, ◌&&◌}
+use mathlib.Core.List.{List, [], ◌∷◌, ◌++◌}
+use lib.ListN.{length, get_or, take, drop}
+use lib.Dec.{ltb}
+use lib.Pow.{pow_mono, pow-add}
 use lib.Arith.{digits_lt}
 use native.Mathlib.Nat.{lt_of_lt_of_le, mod-lt}
-use native.Mathlib.Numerals.{add-one}
 use native.Mathlib.Omega.{arith}
 use borrow.Author.Tests.{lt-ltb, le-ltb}
+use Rattle.std.specs.List.{list_all}
+use Rattle.std.specs.Option.{SomeIff, is_some, unwrap_or}
+use Rattle.std.specs.Iterator.Adapters.{skip_source, skip_count, skip_steps, take_source, take_count, take_steps}
+use Rattle.std.specs.Slice.Iter.{iter_rest}
+use Rattle.std.proofs.Common.{Option, None, Some, Iter}
+use Rattle.std.specs.declared.iter.Skip.{Skip}
+use Rattle.std.specs.declared.iter.Take.{Take}
+use Rattle.std.proofs.iter.Yields.{fronts}
+use Rattle.std.proofs.lemmas.Bool.Decides.{nat_tests}
+use Rattle.std.proofs.lemmas.Iterator.{YieldsList, YieldsList-from_slice, YieldsList-from_take}
+use Rattle.std.proofs.lemmas.Iterator.Adapters.{YieldsList-from_skip}
+use Rattle.std.proofs.lemmas.Iterator.Consumers.{YieldsList-at}
+use Rattle.std.proofs.lemmas.List.{take_more}
 use Rattle.memory.specs.Lists.{part}
 use Rattle.text.specs.Digits.{value_of_digit, all_digits, read_on, field}
 use Rattle.text.specs.Lines.{payload_of, up_to}
 use Rattle.text.specs.Text.{head_in, head_of}
 
--- every byte is a digit: the byte at i, then those after it
-module _ (s : List ℕ) (i d : ℕ) (all : Bool) (within : i < length s) (here : d ≡ value_of_digit (get_or s i 0)) (inv : all_digits (drop i s) ≡ all) where
-  pub digits-stop : 16 ≤ d → false ≡ all
-  unfolding all_digits
-  digits-stop h = rw (drop-cons s i 0 within, ← here, le-ltb d 16 h) at inv
+abbrev pub is_digit : ℕ → Bool
+is_digit c = ltb (value_of_digit c) 16
 
-  pub digits-next : d < 16 → all_digits (drop (i + 1) s) ≡ all
-  unfolding all_digits
-  digits-next h = rw add-one (rw (drop-cons s i 0 within, ← here, lt-ltb d 16 h) at inv)
+module _ (c : ℕ) where
+  pub digit_there : (r : Option ℕ) → SomeIff r (value_of_digit c < 16) (value_of_digit c) → is_some r ≡ is_digit c
+  digit_there None h = sym (le-ltb (value_of_digit c) 16 (omega arith))
+  digit_there (Some x) h = sym (lt-ltb (value_of_digit c) 16 h.0)
 
-pub digits-end : (s : List ℕ) (i : ℕ) (all : Bool) → length s ≤ i → all_digits (drop i s) ≡ all → true ≡ all
+  pub digit_read : (r : Option ℕ) → SomeIff r (value_of_digit c < 16) (value_of_digit c) → value_of_digit c ≤ 16 → unwrap_or r 0 ≡ value_of_digit c % 16
+  digit_read None h k = let e : value_of_digit c ≡ 16 = omega arith in rw e
+  digit_read (Some x) h k = let d : value_of_digit c < 16 = h.0 in h.1 ∙ omega arith
+
+pub all_digits-is : (s : List ℕ) → list_all is_digit s ≡ all_digits s
 unfolding all_digits
-digits-end s i all h inv = rw (drop_of_length-le s h) at inv
-
--- of the `width` digits from `from` on, w is what all but the last `left` say, and the next stands at i
-pub record Partly (p : List ℕ) (from width i left w : ℕ) : Type 0 where
-  pub few : left ≤ width
-  pub small : w < 2 ^ (4 * (width - left))
-  pub rest : read_on w (part i left p) ≡ field from width p
-
-module _ (p : List ℕ) (from width : ℕ) where
-  pub number-start : Partly p from width from width 0
-  number-start = record { few = omega arith; small = pow_pos (4 * (width - width)); rest = refl }
-
-  module _ (i left w : ℕ) (g : Partly p from width i left w) where
-    -- one digit more fits
-    pub number_fits : 0 < left → width ≤ 16 → w < 2 ^ 60
-    number_fits h k = lt_of_lt_of_le g.small (pow_mono {i = 4 * (width - left)} {j = 60} (omega arith))
-
-    pub number_short : length p ≤ i → w ≡ field from width p
-    unfolding read_on
-    number_short h = rw (drop_of_length-le p h, take-nil) at g.rest
-
-    pub number-end : left ≤ 0 → w ≡ field from width p
-    unfolding read_on
-    number-end h = let z : left ≡ 0 = omega arith in rw z at g.rest
-
-    pub number-next : (d next : ℕ) → 0 < left → next ≡ left - 1 → i < length p → d ≡ value_of_digit (get_or p i 0) →
-        Partly p from width (i + 1) next (w * 16 + d % 16)
-    unfolding read_on
-    number-next d next h n within here =
-        let z : left ≡ suc next = omega arith in
-        let rest : read_on (w * 16 + value_of_digit (get_or p i 0) % 16) (part (suc i) next p)
-        ≡ field from width p = rw (z, drop-cons p i 0 within) at g.rest in
-        record {
-          few = omega (arith, g.few);
-          small = rw (four width left next z g.few, pow-add 2 (4 * (width - left)) 4) (digits_lt g.small (omega arith));
-          rest = rw (add-one, here) rest;
-        }
-      where
-        four : (width left next : ℕ) → left ≡ suc next → left ≤ width → 4 * (width - next) ≡ 4 * (width - left) + 4
-        four width left next z h = omega arith
+all_digits-is [] = refl
+all_digits-is (c ∷ s) = ap (λ (b : Bool). is_digit c && b) (all_digits-is s)
 
 -- ---- n digits say a number below 2^(4n)
 
@@ -78,16 +54,55 @@ read_small (c ∷ p) w j h =
     let k : j + 4 + 4 * length p ≡ j + 4 * suc (length p) = omega arith in
     rw (← k) (read_small p (w * 16 + value_of_digit c % 16) (j + 4) (rw (pow-add 2 j 4) (digits_lt h (mod-lt (value_of_digit c) (omega arith)))))
 
+take-few : (n : ℕ) (l : List ℕ) → length (take n l) ≤ n
+take-few zero l = omega arith
+take-few (suc n) [] = omega arith
+take-few (suc n) (x ∷ l) = let h = take-few n l in omega arith
+
+pub read_few : (n : ℕ) (p : List ℕ) → read_on 0 (take n p) < 2 ^ (4 * n)
+read_few n p =
+    let few = take-few n p in
+    lt_of_lt_of_le (read_small (take n p) 0 0 (omega arith)) (pow_mono {i = 0 + 4 * length (take n p)} {j = 4 * n} (omega arith))
+
 pub field_small : (i n : ℕ) (p : List ℕ) → field i n p < 2 ^ (4 * n)
-field_small i n p =
-    let few = take-few n (drop i p) in
-    lt_of_lt_of_le (read_small (part i n p) 0 0 (omega arith)) (pow_mono {i = 0 + 4 * length (part i n p)} {j = 4 * n} (omega arith))
-  where
-    take-few : (n : ℕ) (l : List ℕ) → length (take n l) ≤ n
-    take-few zero l = omega arith
-    take-few (suc n) [] = omega arith
-    take-few (suc n) (x ∷ l) = let h = take-few n l in omega arith
+field_small i n p = read_few n (drop i p)
 
 pub budget_small : (s : List ℕ) → (head_of s).budget < 2 ^ 32
 unfolding head_of head_in
 budget_small s = field_small 28 8 (payload_of (take (up_to s) s))
+
+-- ---- one digit more
+
+pub read_on-more : (w : ℕ) (xs : List ℕ) (c : ℕ) → read_on w (xs ++ c ∷ []) ≡ read_on w xs * 16 + value_of_digit c % 16
+unfolding read_on
+read_on-more w [] c = refl
+read_on-more w (x ∷ xs) c = read_on-more (w * 16 + value_of_digit x % 16) xs c
+
+read_more : (p : List ℕ) (n c : ℕ) → (n < length p) × (c ≡ get_or p n c) → read_on 0 (take (n + 1) p) ≡ read_on 0 (take n p) * 16 + value_of_digit c % 16
+read_more p n c t =
+    ap (λ (x : List ℕ). read_on 0 x) (take_more p n c t.0 ∙ ap (λ (d : ℕ). take n p ++ d ∷ []) (sym t.1)) ∙ read_on-more 0 (take n p) c
+
+value_small : (c : ℕ) → value_of_digit c ≤ 16
+unfolding value_of_digit
+value_small c = grind (arith, nat_tests)
+
+-- the digits that are read: w is what the first n of them say, and c is the next
+module _ (from width : ℕ) (p : List ℕ) (few : width ≤ 16) (n w : ℕ) (so_far : w ≡ read_on 0 (take n (part from width p))) (c : ℕ)
+    (turn : (n < length (part from width p)) × (c ≡ get_or (part from width p) n c)) where
+  pub number_small : w < 2 ^ 60
+  number_small =
+      rw so_far (lt_of_lt_of_le (read_few n (part from width p)) (pow_mono {i = 4 * n} {j = 60} (omega (arith, turn.0, take-few width (drop from p)))))
+
+  pub number_more : (r : Option ℕ) → SomeIff r (value_of_digit c < 16) (value_of_digit c) → w * 16 + unwrap_or r 0 ≡ read_on 0 (take (n + 1) (part from width p))
+  number_more r d = rw (so_far, digit_read c r d (value_small c)) (sym (read_more (part from width p) n c turn))
+
+  pub digit_small : (r : Option ℕ) → SomeIff r (value_of_digit c < 16) (value_of_digit c) → unwrap_or r 0 < 16
+  digit_small r d = rw (digit_read c r d (value_small c)) (omega arith)
+
+-- as `skip` and `take` give them
+pub YieldsList-part : {a : Iter ℕ} {b : Skip (Iter ℕ)} {t : Take (Skip (Iter ℕ))} (from width : ℕ) (p : List ℕ)
+    → iter_rest a ≡ p → skip_source b ≡ a → skip_count b ≡ from → take_source t ≡ b → take_count t ≡ width
+    → YieldsList (take_steps (skip_steps fronts)) (λ y. y.now) t (part from width p)
+YieldsList-part from width p rest b-source b-count t-source t-count =
+    YieldsList-from_take width
+    (YieldsList-at t-source (YieldsList-from_skip from (YieldsList-at b-source (YieldsList-from_slice p rest)) b-count)) t-count

@@ -7,7 +7,7 @@ use lib.ListN.{length, length-append}
 use lib.Dec.{eqb}
 use native.Mathlib.Nat.{add-zero, zero-add, add_assoc}
 use native.Mathlib.Omega.{arith}
-use Rattle.text.specs.Lines.{Lines, none, cut, line, lines_of, kind_of, payload_of}
+use Rattle.text.specs.Lines.{lines_in, kind_of, payload_of}
 use Rattle.text.specs.Sections.{targets_in, values_in, adds, targets_with, values_with, section_of, section_in}
 use Rattle.text.specs.declared.sections.Section.{Section}
 use Rattle.text.specs.declared.sections.Section.TheVariants.{SwitchFirsts, SwitchEnds, SwitchEntries, LookupFirsts, LookupDefaults}
@@ -17,11 +17,10 @@ use Rattle.text.proofs.Naming.{one}
 -- ---- sections of one number a table
 
 module _ (a b : Section) (same : (t v k : ℕ) (p : List ℕ) → length (adds a t v k p) ≡ length (adds b t v k p)) where
-  alike : (t v : ℕ) (lines : Lines) → length (section_of a t v lines) ≡ length (section_of b t v lines)
+  alike : (t v : ℕ) (lines : List (List ℕ)) → length (section_of a t v lines) ≡ length (section_of b t v lines)
   unfolding section_of
-  alike t v none = refl
-  alike t v cut = refl
-  alike t v (line l more) =
+  alike t v [] = refl
+  alike t v (l ∷ more) =
       let k = kind_of l in
       let p = payload_of l in
       let t' = targets_with t k p in
@@ -30,15 +29,15 @@ module _ (a b : Section) (same : (t v k : ℕ) (p : List ℕ) → length (adds a
 
 pub switch_ends_firsts : (s : List ℕ) → length (section_in SwitchEnds s) ≡ length (section_in SwitchFirsts s)
 unfolding adds
-switch_ends_firsts s = alike SwitchEnds SwitchFirsts (λ t v k p. one (eqb k 3) _ ∙ sym (one (eqb k 3) _)) 0 0 (lines_of s)
+switch_ends_firsts s = alike SwitchEnds SwitchFirsts (λ t v k p. one (eqb k 3) _ ∙ sym (one (eqb k 3) _)) 0 0 (lines_in s)
 
 pub lookup-ends-firsts : (s : List ℕ) → length (section_in LookupEnds s) ≡ length (section_in LookupFirsts s)
 unfolding adds
-lookup-ends-firsts s = alike LookupEnds LookupFirsts (λ t v k p. one (eqb k 4) _ ∙ sym (one (eqb k 4) _)) 0 0 (lines_of s)
+lookup-ends-firsts s = alike LookupEnds LookupFirsts (λ t v k p. one (eqb k 4) _ ∙ sym (one (eqb k 4) _)) 0 0 (lines_in s)
 
 pub lookup-defaults-firsts : (s : List ℕ) → length (section_in LookupDefaults s) ≡ length (section_in LookupFirsts s)
 unfolding adds
-lookup-defaults-firsts s = alike LookupDefaults LookupFirsts (λ t v k p. one (eqb k 4) _ ∙ sym (one (eqb k 4) _)) 0 0 (lines_of s)
+lookup-defaults-firsts s = alike LookupDefaults LookupFirsts (λ t v k p. one (eqb k 4) _ ∙ sym (one (eqb k 4) _)) 0 0 (lines_in s)
 
 -- ---- ends
 
@@ -57,11 +56,10 @@ module _ (rises : ℕ → List ℕ → ℕ → Type 0) (none_rise : (n : ℕ) �
       (ends-are : (t v k : ℕ) (p : List ℕ) → adds ends t v k p ≡ cond (eqb k kind) (count t v ∷ []) [])
       (all_are : (t v k : ℕ) (p : List ℕ) → adds all t v k p ≡ cond (eqb k kind) (entries p) [])
       (counts : (t v k : ℕ) (p : List ℕ) → count (targets_with t k p) (values_with v k p) ≡ count t v + length (cond (eqb k kind) (entries p) [])) where
-    rise : (t v : ℕ) (lines : Lines) → rises (count t v) (section_of ends t v lines) (count t v + length (section_of all t v lines))
+    rise : (t v : ℕ) (lines : List (List ℕ)) → rises (count t v) (section_of ends t v lines) (count t v + length (section_of all t v lines))
     unfolding section_of
-    rise t v none = rw add-zero (none_rise (count t v))
-    rise t v cut = rw add-zero (none_rise (count t v))
-    rise t v (line l more) =
+    rise t v [] = rw add-zero (none_rise (count t v))
+    rise t v (l ∷ more) =
         let k = kind_of l in
         let p = payload_of l in
         let t' = targets_with t k p in
@@ -73,10 +71,10 @@ module _ (rises : ℕ → List ℕ → ℕ → Type 0) (none_rise : (n : ℕ) �
   unfolding adds
   switch_ends_rise s =
       rw zero-add at (rise SwitchEnds SwitchEntries 3 (λ p. targets_in p) (λ t v. t) (λ t v k p. refl) (λ t v k p. refl) (λ t v k p. refl) 0
-      0 (lines_of s))
+      0 (lines_in s))
 
   pub lookup-ends_rise : (s : List ℕ) → rises 0 (section_in LookupEnds s) (length (section_in LookupEntries s))
   unfolding adds
   lookup-ends_rise s =
       rw zero-add at (rise LookupEnds LookupEntries 4 (λ p. values_in p) (λ t v. v) (λ t v k p. refl) (λ t v k p. refl) (λ t v k p. refl) 0 0
-      (lines_of s))
+      (lines_in s))

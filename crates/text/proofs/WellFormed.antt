@@ -1,65 +1,161 @@
--- Which texts are images, line by line, and their headers. Assumes nothing.
-use Prim.Native.Nat.{ℕ, ◌+◌, ◌-◌, ◌<◌, ◌≤◌, min}
-use mathlib.Core.Path.{◌≡◌, refl, sym, ap, ◌∙◌}
-use mathlib.Core.Bool.{Bool, true, false}
+-- Which texts are images, and their headers. Assumes nothing.
+use Prim.Native.Nat.{ℕ, suc, ◌-◌, ◌<◌, ◌≤◌}
+use mathlib.Core.Path.{◌≡◌, refl, ap, ◌∙◌}
+use mathlib.Core.Bool.{Bool, true, false, cond, ◌&&◌}
 use mathlib.Core.List.{List, [], ◌∷◌}
 use lib.ListN.{length, take, drop}
+use lib.Dec.{eqb, ltb}
 use native.Mathlib.Omega.{arith}
-use borrow.Author.Tests.{le-leb, lt-leb}
-use Rattle.text.specs.Lines.{lines_of, up_to, payload_of}
-use Rattle.text.specs.Text.{is_header, is_other, rest_ok, lines_ok, text_ok, head_in, head_of}
-use Rattle.text.specs.declared.Head.{Head}
-use Rattle.text.proofs.Splitting.{Ends, line_at, to_line, to_cut, to_none, payload_at}
+use borrow.Author.Tests.{le-leb, lt-leb, ltb-true, ltb-false}
+use Rattle.std.proofs.Common.{Ok, Err}
+use Rattle.std.proofs.lemmas.Bool.Decides.{nat_tests}
+use Rattle.std.specs.List.{list_all, ends_with}
+use Rattle.anomaly.specs.declared.Refusal.{Refusal}
+use Rattle.text.specs.Lines.{Lines, none, cut, line, before, lines_of, whole, lines_in, up_to, payload_of}
+use Rattle.text.specs.Text.{is_header, is_other, rest_ok, lines_ok, text_ok, head_in, head_of, read_of}
+use Rattle.text.proofs.Splitting.{first_line, no_line}
 
--- ---- the lines after the header
+-- ---- the last line feed
 
-module _ (s : List ℕ) (a e : ℕ) (ends : Ends s a e) (ok : Bool) (inv : rest_ok (lines_of (drop a s)) ≡ ok) where
-  pub rest_cut : length s ≤ e → a < length s → false ≡ ok
-  unfolding rest_ok
-  rest_cut h k = rw (to_cut s a e ends h k) at inv
+-- every byte is on a line that a line feed ends
+unfoldable closed : Lines → Bool
+closed none = true
+closed cut = false
+closed (line l more) = closed more
 
-  module _ (h : e < length s) (other : Bool) (is : other ≡ is_other (line_at s a e)) where
-    pub rest_next : other ≡ true → rest_ok (lines_of (drop (e + 1) s)) ≡ ok
-    unfolding rest_ok
-    rest_next t = rw (to_line s a e ends h, ← is, t) at inv
+unfoldable begun : Lines → Bool
+begun none = false
+begun cut = true
+begun (line l more) = true
 
-    pub rest_bad : other ≡ false → false ≡ ok
-    unfolding rest_ok
-    rest_bad t = rw (to_line s a e ends h, ← is, t) at inv
+closed-before : (c : ℕ) (t : Lines) → begun t ≡ true → closed (before c t) ≡ closed t
+unfolding begun closed before
+closed-before c none h = let z : ◌≡◌ {A = ℕ} 0 1 = cc in absurd (omega arith)
+closed-before c cut h = refl
+closed-before c (line l more) h = refl
 
-pub rest_end : (s : List ℕ) (a : ℕ) (ok : Bool) → length s ≤ a → rest_ok (lines_of (drop a s)) ≡ ok → true ≡ ok
-unfolding rest_ok
-rest_end s a ok h inv = rw (to_none s a h) at inv
+begun-before : (c : ℕ) (t : Lines) → begun (before c t) ≡ true
+unfolding begun before
+begun-before c none = refl
+begun-before c cut = refl
+begun-before c (line l more) = refl
 
--- ---- the whole text
+begun-lines : (c : ℕ) (s : List ℕ) → begun (lines_of (c ∷ s)) ≡ true
+unfolding begun lines_of
+begun-lines c s = either (eqb c 10)
+  where
+    either : (b : Bool) → begun (cond b (line [] (lines_of s)) (before c (lines_of s))) ≡ true
+    either true = refl
+    either false = begun-before c (lines_of s)
 
-pub too_long : (s : List ℕ) → 65536 < length s → false ≡ text_ok s
-unfolding text_ok
-too_long s h = rw (lt-leb (length s) 65536 h)
+eqb-swap : (a b : ℕ) → eqb a b ≡ eqb b a
+eqb-swap a b = grind (arith, nat_tests)
 
-no_header : (s : List ℕ) (e : ℕ) → Ends s 0 e → length s ≤ e → false ≡ lines_ok (lines_of s)
-unfolding lines_ok lines_of
-no_header [] e ends h = refl
-no_header (c ∷ s) e ends h = ap lines_ok (sym (to_cut (c ∷ s) 0 e ends h (omega arith)))
+-- a byte before lines
+closed-more : (c : ℕ) (s : List ℕ) → begun (lines_of s) ≡ true → closed (lines_of (c ∷ s)) ≡ closed (lines_of s)
+unfolding closed lines_of
+closed-more c s h = either (eqb c 10)
+  where
+    either : (b : Bool) → closed (cond b (line [] (lines_of s)) (before c (lines_of s))) ≡ closed (lines_of s)
+    either true = refl
+    either false = closed-before c (lines_of s) h
 
-module _ (s : List ℕ) (e : ℕ) (ends : Ends s 0 e) (short : length s ≤ 65536) where
-  pub header_cut : length s ≤ e → false ≡ text_ok s
+closed-one : (c : ℕ) → closed (lines_of (c ∷ [])) ≡ ends_with eqb (c ∷ []) (10 ∷ [])
+unfolding closed lines_of before
+closed-one c = either (eqb c 10) (eqb 10 c) (eqb-swap c 10)
+  where
+    either : (b d : Bool) → b ≡ d → closed (cond b (line [] none) (before c none)) ≡ (d && true)
+    either true d e = rw (← e)
+    either false d e = rw (← e)
+
+closed-lines : (c : ℕ) (s : List ℕ) → closed (lines_of (c ∷ s)) ≡ ends_with eqb (c ∷ s) (10 ∷ [])
+closed-lines c [] = closed-one c
+closed-lines c (d ∷ s) =
+    let back : suc (suc (length s)) - 1 ≡ suc (suc (length s) - 1) = omega arith in
+    rw back (closed-more c (d ∷ s) (begun-lines d s) ∙ closed-lines d s)
+
+-- ---- the lines
+
+unfoldable pub headed : List (List ℕ) → Bool
+headed [] = false
+headed (l ∷ more) = is_header l && list_all is_other more
+
+and_swap : (a b d : Bool) → (a && (b && d)) ≡ (b && (a && d))
+and_swap true b d = refl
+and_swap false true d = refl
+and_swap false false d = refl
+
+rest_by : (t : Lines) → rest_ok t ≡ (closed t && list_all is_other (whole t))
+unfolding rest_ok closed whole
+rest_by none = refl
+rest_by cut = refl
+rest_by (line l more) = rw (rest_by more) (and_swap (is_other l) (closed more) (list_all is_other (whole more)))
+
+lines_by : (t : Lines) → lines_ok t ≡ (closed t && headed (whole t))
+unfolding lines_ok closed headed whole
+lines_by none = refl
+lines_by cut = refl
+lines_by (line l more) = rw (rest_by more) (and_swap (is_header l) (closed more) (list_all is_other (whole more)))
+
+and_false : (a : Bool) → (a && false) ≡ false
+and_false true = refl
+and_false false = refl
+
+-- ---- the text
+
+module _ (s : List ℕ) where
+  not_image : text_ok s ≡ false → Err Refusal.Text ≡ read_of s
+  unfolding read_of
+  not_image h = rw h
+
+  pub too_long : 65536 < length s → Err Refusal.Text ≡ read_of s
   unfolding text_ok
-  header_cut h = rw (le-leb (length s) 65536 short) (no_header s e ends h)
+  too_long h = not_image (rw (lt-leb (length s) 65536 h))
 
-  module _ (h : e < length s) (header : Bool) (is : header ≡ is_header (line_at s 0 e)) where
-    pub header_then : header ≡ true → (ok : Bool) → ok ≡ rest_ok (lines_of (drop (e + 1) s)) → ok ≡ text_ok s
-    unfolding text_ok lines_ok
-    header_then t ok rest = rw (le-leb (length s) 65536 short, to_line s 0 e ends h, ← is, t) rest
+  lines_bad : lines_ok (lines_of s) ≡ false → Err Refusal.Text ≡ read_of s
+  unfolding text_ok
+  lines_bad h = not_image (rw (h, and_false))
 
-    pub header_bad : header ≡ false → false ≡ text_ok s
-    unfolding text_ok lines_ok
-    header_bad t = rw (le-leb (length s) 65536 short, to_line s 0 e ends h, ← is, t)
+  pub headed_bad : headed (lines_in s) ≡ false → Err Refusal.Text ≡ read_of s
+  headed_bad h = lines_bad (lines_by (lines_of s) ∙ rw (h, and_false))
 
--- ---- the header
+  pub no_lines : lines_in s ≡ [] → Err Refusal.Text ≡ read_of s
+  unfolding headed
+  no_lines e = headed_bad (rw e)
 
-pub head_read : (s : List ℕ) (e b : ℕ) → Ends s 0 e → b ≡ 0 + min 2 (e - 0) → (head : Head) → head ≡ head_in (line_at s b e) → head ≡ head_of s
-unfolding head_of
-head_read s e b ends begins head is =
-    let whole : up_to s ≡ e - 0 = omega (arith, ends.0) in
-    is ∙ ap head_in (sym (ap (λ (n : ℕ). payload_of (take n s)) whole ∙ payload_at s 0 e b begins))
+  module _ {l : List ℕ} {more : List (List ℕ)} (step : lines_in s ≡ l ∷ more) where
+    pub header_bad : is_header l ≡ false → Err Refusal.Text ≡ read_of s
+    unfolding headed
+    header_bad h = headed_bad (rw (step, h))
+
+    pub rest_bad : list_all is_other more ≡ false → Err Refusal.Text ≡ read_of s
+    unfolding headed
+    rest_bad h = headed_bad (rw (step, h, and_false))
+
+pub not_closed : (s : List ℕ) → ends_with eqb s (10 ∷ []) ≡ false → Err Refusal.Text ≡ read_of s
+unfolding headed lines_of whole
+not_closed [] h = headed_bad [] refl
+not_closed (c ∷ s) h = lines_bad (c ∷ s) (lines_by (lines_of (c ∷ s)) ∙ rw (closed-lines c s, h))
+
+first_is : (s l : List ℕ) (more : List (List ℕ)) → lines_in s ≡ l ∷ more → l ≡ take (up_to s) s
+unfolding whole
+first_is s l more step = by (ltb (up_to s) (length s)) refl
+  where
+    by : (b : Bool) → ltb (up_to s) (length s) ≡ b → l ≡ take (up_to s) s
+    by true t =
+        let here : lines_in s ≡ take (up_to s) s ∷ lines_in (drop (suc (up_to s)) s) = ap whole (first_line s (ltb-true _ _ t)) in
+        cc
+    by false t =
+        let none_there : lines_in s ≡ [] = no_line s (ltb-false _ _ t) in
+        let z : ◌≡◌ {A = ℕ} 0 1 = cc in
+        absurd (omega arith)
+
+-- an image: its lines and the header in the first of them
+pub image_read : (s : List ℕ) → length s ≤ 65536 → ends_with eqb s (10 ∷ []) ≡ true → (l : List ℕ) (more : List (List ℕ)) → lines_in s ≡ l ∷ more
+    → is_header l ≡ true → list_all is_other more ≡ true → Ok (head_in (payload_of l)) ≡ read_of s
+unfolding read_of text_ok head_of headed
+image_read [] short ends l more step header rest = let z : ◌≡◌ {A = ℕ} 0 1 = cc in absurd (omega arith)
+image_read (c ∷ s) short ends l more step header rest =
+    let closes : closed (lines_of (c ∷ s)) ≡ true = closed-lines c s ∙ ends in
+    let lines : lines_ok (lines_of (c ∷ s)) ≡ true = lines_by (lines_of (c ∷ s)) ∙ rw (closes, step, header, rest) in
+    rw (le-leb (length (c ∷ s)) 65536 short, lines, first_is (c ∷ s) l more step)

@@ -1,17 +1,16 @@
 -- Document 01's worked image, a text with every kind of line, and texts that are refused, in one table, and the one fact, by computation, that
 -- all its rows hold. Assumes nothing.
-use Rattle.std.specs.Prelude.{◌≡◌, refl, true, cond, List, [], ◌∷◌, ◌++◌, ℕ, zero, suc, ◌+◌, ◌/◌, ◌%◌, ◌^◌, take, ltb}
-use Rattle.std.proofs.Math.Option.{Option, none, some}
+use Rattle.std.specs.Prelude.{◌≡◌, refl, true, cond, List, [], ◌∷◌, ◌++◌, ℕ, zero, suc, ◌+◌, ◌/◌, ◌%◌, ◌^◌, length, take, ltb, Result, Ok, Err}
 use Rattle.memory.specs.Lists.{same}
 use Rattle.memory.specs.Rows.{hold_lists}
+use Rattle.anomaly.specs.declared.Refusal.{Refusal}
 use Rattle.anomaly.specs.Table.{number_of_refusal}
 use Rattle.text.specs.Digits.{value_of_digit, all_digits, read_on, numbers}
 use Rattle.text.specs.Lines as Lines
 use Rattle.text.specs.Text.{rest_ok, lines_ok, text_ok, head_in, head_of, read_of}
 use Rattle.text.specs.Sections.{adds, section_of, section_in}
-use Rattle.text.specs.Names.{Name, names_of, nth, name_of}
-use Rattle.text.specs.declared.Reading.{Reading}
-use Rattle.text.specs.declared.Reading.TheVariants.{Image, Refused}
+use Rattle.text.specs.Names.{Name, names_of, names_in}
+use Rattle.text.specs.declared.Head.{Head}
 use Rattle.text.specs.declared.sections.Section.TheVariants.{Code, Globals, SwitchFirsts, SwitchEnds, SwitchEntries, LookupFirsts}
 use Rattle.text.specs.declared.sections.Section.TheVariants.{LookupDefaults, LookupEnds, LookupEntries}
 
@@ -46,13 +45,14 @@ every_kind =
     ++ line 18 0x020000000000000001
 
 -- the header's numbers, or the number of the refusal
-unfoldable pub told : Reading → List ℕ
-told (Image h) = h.base ∷ h.pages ∷ h.frames ∷ h.slots ∷ h.budget ∷ []
-told (Refused why) = number_of_refusal why ∷ []
+unfoldable pub told : Result Head Refusal → List ℕ
+told (Ok h) = h.base ∷ h.pages ∷ h.frames ∷ h.slots ∷ h.budget ∷ []
+told (Err why) = number_of_refusal why ∷ []
 
-unfoldable pub told_name : Option Name → List ℕ
-told_name none = []
-told_name (some name) = name.global ∷ name.bytes
+-- of each name its global, how many bytes it has, and they
+unfoldable pub told_names : List Name → List ℕ
+told_names [] = []
+told_names (name ∷ more) = name.global ∷ length name.bytes ∷ name.bytes ++ told_names more
 
 abbrev refused : List ℕ
 refused = 19 ∷ []
@@ -70,9 +70,8 @@ rows =
     ∷ (section_in LookupDefaults every_kind, 0x9a ∷ 0x99 ∷ [])
     ∷ (section_in LookupEnds every_kind, 0 ∷ 2 ∷ [])
     ∷ (section_in LookupEntries every_kind, 1 ∷ 0xff ∷ [])
-    ∷ (told_name (name_of 0 every_kind), 1 ∷ 97 ∷ 98 ∷ 99 ∷ [])
-    ∷ (told_name (name_of 1 every_kind), 2 ∷ [])
-    ∷ (told_name (name_of 2 every_kind), [])
+    ∷ (told_names (names_in worked), [])
+    ∷ (told_names (names_in every_kind), 1 ∷ 3 ∷ 97 ∷ 98 ∷ 99 ∷ 2 ∷ 0 ∷ [])
     -- no line, no last line feed, an empty line, a carriage return, an upper-case digit
     ∷ (told (read_of []), refused)
     ∷ (told (read_of (take 95 worked)), refused)
@@ -87,6 +86,6 @@ rows =
     ∷ []
 
 pub all_hold : hold_lists rows ≡ true
-unfolding rows hold_lists same digits worked every_kind told told_name value_of_digit all_digits read_on numbers Lines.before Lines.lines_of
-    Lines.up_to Lines.count_ok Lines.line_ok rest_ok lines_ok text_ok head_in head_of read_of adds section_of names_of nth
+unfolding rows hold_lists same digits worked every_kind told told_names value_of_digit all_digits read_on numbers Lines.before Lines.lines_of Lines.whole
+    Lines.up_to Lines.count_ok Lines.line_ok rest_ok lines_ok text_ok head_in head_of read_of adds section_of names_of
 all_hold = refl

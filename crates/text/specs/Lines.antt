@@ -18,6 +18,15 @@ unfoldable pub lines_of : List ℕ → Lines
 lines_of [] = none
 lines_of (c ∷ s) = cond (eqb c 10) (line [] (lines_of s)) (before c (lines_of s))
 
+-- those that a line feed ends, without their line feeds
+unfoldable pub whole : Lines → List (List ℕ)
+whole none = []
+whole cut = []
+whole (line l more) = l ∷ whole more
+
+abbrev pub lines_in : List ℕ → List (List ℕ)
+lines_in s = whole (lines_of s)
+
 -- how many bytes stand before the first line feed
 unfoldable pub up_to : List ℕ → ℕ
 up_to [] = 0

@@ -1,7 +1,7 @@
 -- Document 01, 'Instruction and image': what the lines of an image hold, section by section, in line order. Definitions only.
 use Rattle.std.specs.Prelude.{ℕ, ◌+◌, ◌-◌, ◌/◌, cond, List, [], ◌∷◌, ◌++◌, length, drop, eqb}
 use Rattle.text.specs.Digits.{field, numbers}
-use Rattle.text.specs.Lines.{Lines, none, cut, line, lines_of, kind_of, payload_of}
+use Rattle.text.specs.Lines.{lines_in, kind_of, payload_of}
 use Rattle.text.specs.declared.sections.Section.{Section}
 use Rattle.text.specs.declared.sections.Section.TheVariants.{Code, Globals, SwitchFirsts, SwitchEnds, SwitchEntries, LookupFirsts}
 use Rattle.text.specs.declared.sections.Section.TheVariants.{LookupDefaults, LookupEnds, LookupEntries}
@@ -39,14 +39,13 @@ abbrev pub values_with : ℕ → ℕ → List ℕ → ℕ
 values_with n k p = n + length (of_kind 4 k (values_in p))
 
 -- a section of the lines behind tables of so many targets and so many values
-unfoldable pub section_of : Section → ℕ → ℕ → Lines → List ℕ
-section_of section targets values none = []
-section_of section targets values cut = []
-section_of section targets values (line l more) =
+unfoldable pub section_of : Section → ℕ → ℕ → List (List ℕ) → List ℕ
+section_of section targets values [] = []
+section_of section targets values (l ∷ more) =
     let t = targets_with targets (kind_of l) (payload_of l) in
     let v = values_with values (kind_of l) (payload_of l) in
     adds section t v (kind_of l) (payload_of l) ++ section_of section t v more
 
 -- the whole section of a text
 abbrev pub section_in : Section → List ℕ → List ℕ
-section_in section s = section_of section 0 0 (lines_of s)
+section_in section s = section_of section 0 0 (lines_in s)

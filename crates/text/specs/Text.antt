@@ -1,11 +1,10 @@
 -- Document 01, 'Instruction and image': which texts are images, and what the header says. Definitions only.
-use Rattle.std.specs.Prelude.{ℕ, Bool, true, false, cond, not, ◌&&◌, List, length, take, eqb, leb}
+use Rattle.std.specs.Prelude.{ℕ, Bool, true, false, cond, not, ◌&&◌, List, length, take, eqb, leb, Result, Ok, Err}
+use Rattle.anomaly.specs.declared.Refusal.{Refusal}
 use Rattle.anomaly.specs.declared.Refusal.TheVariants.{Text}
 use Rattle.text.specs.Digits.{field}
 use Rattle.text.specs.Lines.{Lines, none, cut, line, lines_of, up_to, kind_of, payload_of, line_ok}
 use Rattle.text.specs.declared.Head.{Head}
-use Rattle.text.specs.declared.Reading.{Reading}
-use Rattle.text.specs.declared.Reading.TheVariants.{Image, Refused}
 
 abbrev pub is_header : List ℕ → Bool
 is_header l = line_ok l && eqb (kind_of l) 0
@@ -45,5 +44,5 @@ unfoldable pub head_of : List ℕ → Head
 head_of s = head_in (payload_of (take (up_to s) s))
 
 -- 19, or the header
-unfoldable pub read_of : List ℕ → Reading
-read_of s = cond (text_ok s) (Image (head_of s)) (Refused Text)
+unfoldable pub read_of : List ℕ → Result Head Refusal
+read_of s = cond (text_ok s) (Ok (head_of s)) (Err Text)

@@ -1,11 +1,12 @@
 // The text of an image: lines of lower-case hexadecimal digits, each a kind of two digits and a
 // payload. `read` refuses a text or gives its header; `gather` lays one section over a buffer;
-// `name` decodes one name. These two take any bytes, and are of use for a text that is not refused.
+// `Names` goes over the names. These two take any bytes, and are of use for a text that is not refused.
 #![tactic(auto)]
 
 ghost use Rattle.std.specs.Prelude.{◌≡◌};
-ghost use Rattle.text.specs.Text.{head_of, read_of};
+ghost use Rattle.text.specs.Text.{head_in, read_of};
 
+mod buffer;
 mod digits;
 mod lines;
 pub mod names;
@@ -13,7 +14,7 @@ pub mod sections;
 
 use anomaly::Refusal;
 pub use digits::{all_digits, number};
-pub use lines::line_end;
+use lines::{Lines, is_header, is_other, payload_of};
 
 // The longest text.
 pub const MAX_LEN: usize = 65536;
@@ -28,40 +29,35 @@ pub struct Head {
     pub budget: u64,
 }
 
-// What reading comes to.
-#[derive(Clone, Copy)]
-pub enum Reading {
-    Image(Head),
-    Refused(Refusal),
-}
-
-// The numbers of the first line.
-fn header(s: &[u8]) -> Head
-    ensures { result ≡ head_of s.now }
-{
-    let end = lines::line_end(s, 0);
-    let start = lines::payload_start(0, end);
-    let p = &s[start..end];
-    let base = digits::number(p, 0, 16);
-    let pages = digits::number(p, 16, 4);
-    let frames = digits::number(p, 20, 4);
-    let slots = digits::number(p, 24, 4);
-    let budget = digits::number(p, 28, 8);
-    Head {
-        base,
-        pages,
-        frames,
-        slots,
-        budget,
+impl Head {
+    // The numbers in a header's payload.
+    fn of(p: &[u8]) -> Head
+        ensures { result ≡ head_in p.now }
+    {
+        Head {
+            base: number(p, 0, 16),
+            pages: number(p, 16, 4),
+            frames: number(p, 20, 4),
+            slots: number(p, 24, 4),
+            budget: number(p, 28, 8),
+        }
     }
 }
 
 // The header of an image's text, or 19.
-pub fn read(s: &[u8]) -> Reading
+pub fn read(s: &[u8]) -> Result<Head, Refusal>
     ensures { result ≡ read_of s.now }
 {
-    if lines::text_ok(s) {
-        return Reading::Image(header(s));
+    if MAX_LEN < s.len() || !s.ends_with(b"\n") {
+        return Err(Refusal::Text);
     }
-    Reading::Refused(Refusal::Text)
+    let mut lines = Lines(s);
+    let Some(first) = lines.next() else {
+        return Err(Refusal::Text);
+    };
+    if is_header(first) && lines.all(is_other) {
+        Ok(Head::of(payload_of(first)))
+    } else {
+        Err(Refusal::Text)
+    }
 }

@@ -1,127 +1,125 @@
-// Lines, kinds and payloads, and which texts are refused by 19.
-ghost use Rattle.std.specs.Prelude.{◌≡◌, ◌+◌, ◌-◌, ◌≤◌, min, length, drop};
-ghost use Rattle.text.specs.Lines.{lines_of, up_to, kind_of, count_ok, line_ok};
-ghost use Rattle.text.specs.Text.{is_header, is_other, rest_ok, text_ok};
+// Lines, their kinds and payloads.
+ghost use Rattle.std.specs.Prelude.{◌≡◌, ◌<◌, ◌==◌, length, SomeIff, MatchOption};
+ghost use Rattle.std.specs.Iterator.{YieldsFirstRef, item_count};
+ghost use Rattle.text.specs.Kinds.{number_of_kind, OfNumber};
+ghost use Rattle.text.specs.Lines.{lines_in, up_to, kind_of, payload_of, count_ok, line_ok};
+ghost use Rattle.text.specs.Text.{is_header, is_other};
 
-use crate::MAX_LEN;
-use crate::digits::{all_digits, number};
+use crate::digits::{all_digits, behind, number};
 
 // The kinds of lines.
-pub const HEADER: u64 = 0;
+#[derive(Clone, Copy, PartialEq, Eq)]
+pub enum Kind {
+    Header,
+    Word,
+    Global,
+    Switch,
+    Lookup,
+    Name,
+}
 
-pub const WORD: u64 = 1;
+// A number that is no kind's.
+#[derive(Clone, Copy)]
+pub struct UnknownKind;
 
-pub const GLOBAL: u64 = 2;
+// The kind of a line, from the number of its first two digits.
+impl TryFrom<u64> for Kind {
+    type Error = UnknownKind;
 
-pub const SWITCH: u64 = 3;
+    ghost try_from_gives = { OfNumber };
 
-pub const LOOKUP: u64 = 4;
-
-pub const NAME: u64 = 5;
-
-// Where the line ends that starts at `at`: at its line feed, or at the text's end.
-pub fn line_end(s: &[u8], at: usize) -> usize
-    requires { at ≤ length s.now }
-    ensures { (result ≡ at + up_to (drop at s.now)) × (result ≤ length s.now) }
-{
-    let mut i = at;
-    while i < s.len() {
-        let c = s[i];
-        if c == b'\n' {
-            return i;
+    fn try_from(number: u64) -> Result<Kind, UnknownKind> {
+        match number {
+            0 => Ok(Kind::Header),
+            1 => Ok(Kind::Word),
+            2 => Ok(Kind::Global),
+            3 => Ok(Kind::Switch),
+            4 => Ok(Kind::Lookup),
+            5 => Ok(Kind::Name),
+            _ => Err(UnknownKind),
         }
-        i += 1;
     }
-    i
 }
 
-// Where the payload starts of the line from `at` to `end`: after its kind digits.
-pub fn payload_start(at: usize, end: usize) -> usize
-    requires { at ≤ end }
-    ensures { result ≡ at + min 2 (end - at) }
-{
-    if end - at < 2 { end } else { at + 2 }
+impl Kind {
+    // Whether a line of this kind may have `n` digits behind it.
+    fn takes(self, n: usize) -> bool
+        ensures { result ≡ count_ok (number_of_kind self) n }
+    {
+        match self {
+            Kind::Header => n == 36,
+            Kind::Word | Kind::Global => n == 16,
+            Kind::Switch => 16 <= n && n % 4 == 0,
+            Kind::Lookup => 32 <= n && n % 16 == 0,
+            Kind::Name => n % 2 == 0,
+        }
+    }
 }
 
-// The number of a line's first two digits.
-pub fn kind(l: &[u8]) -> u64
-    ensures { result ≡ kind_of l.now }
+// The kind of a line: of the number of its first two digits.
+pub fn kind_of(line: &[u8]) -> Option<Kind>
+    ensures { MatchOption result (5 < kind_of line.now) (λ k. number_of_kind k ≡ kind_of line.now) }
 {
-    number(l, 0, 2)
+    Kind::try_from(number(line, 0, 2)).ok()
 }
 
-// Whether a line of this kind may have `n` digits behind it.
-fn count_ok(kind: u64, n: usize) -> bool
-    ensures { result ≡ count_ok kind n }
+pub fn has_kind(line: &[u8], kind: Kind) -> bool
+    ensures { result ≡ (kind_of line.now == number_of_kind kind) }
 {
-    ((kind == HEADER) & (n == 36))
-        | ((kind == WORD) & (n == 16))
-        | ((kind == GLOBAL) & (n == 16))
-        | ((kind == SWITCH) & ((16 <= n) & (n % 4 == 0)))
-        | ((kind == LOOKUP) & ((32 <= n) & (n % 16 == 0)))
-        | ((kind == NAME) & (n % 2 == 0))
+    kind_of(line) == Some(kind)
+}
+
+// What stands behind its kind.
+pub fn payload_of(line: &[u8]) -> &[u8]
+    ensures { result.now ≡ payload_of line.now }
+{
+    behind(line, 2)
 }
 
 // Whether a line has a known kind, digits alone, and as many as its kind asks for.
-fn line_ok(l: &[u8]) -> bool
-    ensures { result ≡ line_ok l.now }
+fn line_ok(line: &[u8]) -> bool
+    ensures { result ≡ line_ok line.now }
 {
-    if l.len() < 2 {
+    let Some(kind) = kind_of(line) else {
         return false;
-    }
-    if all_digits(l) {
-        return count_ok(kind(l), l.len() - 2);
-    }
-    false
+    };
+    2 <= line.len() && all_digits(line) && kind.takes(line.len() - 2)
 }
 
-fn is_header(l: &[u8]) -> bool
-    ensures { result ≡ is_header l.now }
+pub fn is_header(line: &[u8]) -> bool
+    ensures { result ≡ is_header line.now }
 {
-    let ok = line_ok(l);
-    ok & (kind(l) == HEADER)
+    line_ok(line) && has_kind(line, Kind::Header)
 }
 
-fn is_other(l: &[u8]) -> bool
-    ensures { result ≡ is_other l.now }
+pub fn is_other(line: &[u8]) -> bool
+    ensures { result ≡ is_other line.now }
 {
-    let ok = line_ok(l);
-    ok & (kind(l) != HEADER)
+    line_ok(line) && !has_kind(line, Kind::Header)
 }
 
-// Whether the lines from `from` on are those of an image after its header.
-fn rest_ok(s: &[u8], from: usize) -> bool
-    requires { from ≤ length s.now }
-    ensures { result ≡ rest_ok (lines_of (drop from s.now)) }
+// How many bytes stand before the first line feed.
+fn line_feed(s: &[u8]) -> Option<usize>
+    ensures { SomeIff result (up_to s.now < length s.now) (up_to s.now) }
 {
-    let mut at = from;
-    while at < s.len() {
-        let end = line_end(s, at);
-        if s.len() <= end {
-            return false;
-        }
-        if is_other(&s[at..end]) {
-            at = end + 1;
-        } else {
-            return false;
-        }
-    }
-    true
+    s.iter().position(|&c| c == b'\n')
 }
 
-// Whether a text is an image's; if not, it is refused by 19.
-pub fn text_ok(s: &[u8]) -> bool
-    ensures { result ≡ text_ok s.now }
-{
-    if MAX_LEN < s.len() {
-        return false;
+// The lines of a text. What no line feed ends is none of them.
+#[derive(Drop)]
+pub struct Lines<'a>(pub &'a [u8]);
+
+impl<'a> Iterator for Lines<'a> {
+    type Item = &'a [u8];
+
+    ghost next_gives = { YieldsFirstRef (λ left. lines_in left.0.now) };
+
+    ghost remaining = { item_count (λ left. lines_in left.0.now) };
+
+    fn next(&mut self) -> Option<&'a [u8]> {
+        let text = self.0;
+        let end = line_feed(text)?;
+        self.0 = &text[end + 1..];
+        Some(&text[..end])
     }
-    let end = line_end(s, 0);
-    if s.len() <= end {
-        return false;
-    }
-    if is_header(&s[0..end]) {
-        return rest_ok(s, end + 1);
-    }
-    false
 }

@@ -1,107 +1,90 @@
 // The names of an image, in line order.
-ghost use Rattle.std.specs.Prelude.{◌≡◌, cond, ◌∷◌, [], ◌+◌, ◌≤◌, ◌<◌, ◌^◌, length};
-ghost use Rattle.memory.specs.Lists.{over, Written};
-ghost use Rattle.text.specs.Names.{bytes_in, name_of, Found, answer_of, bytes_of};
+ghost use Rattle.std.specs.Prelude.{◌≡◌, ◌+◌, ◌<◌, ◌^◌, length};
+ghost use Rattle.std.specs.Iterator.{YieldsFirstBy, item_count};
+ghost use Rattle.memory.specs.Lists.{over};
+ghost use Rattle.text.specs.Lines.{lines_in, kind_of, payload_of};
+ghost use Rattle.text.specs.Sections.{adds};
+ghost use Rattle.text.specs.declared.sections.Section.TheVariants.{Globals};
 
+use crate::buffer::put_at;
 use crate::digits::number;
-use crate::lines::{GLOBAL, NAME, kind, line_end, payload_start};
+use crate::lines::{Kind, Lines, has_kind, kind_of, payload_of};
 
-// The index of a name's global and the length of its bytes; or no such name.
+// A name: the index of its global, and two digits for each of its bytes.
 #[derive(Clone, Copy)]
-pub enum Named {
-    At { global: usize, len: usize },
-    Missing,
+pub struct Named<'a> {
+    pub global: usize,
+    pub digits: &'a [u8],
 }
 
-// The index of a name's global and the place of its digits; or no such name.
-#[derive(Clone, Copy)]
-enum Spot {
-    At {
-        global: usize,
-        start: usize,
-        end: usize,
-    },
-    Missing,
-}
+impl Named<'_> {
+    ghost use Rattle.text.specs.Names.{bytes_in};
 
-fn one_if(here: bool) -> usize
-    ensures { (result ≡ cond here 1 0) × (result ≤ 1) }
-{
-    if here {
-        return 1;
-    }
-    0
-}
-
-// The name that `i` names stand before.
-fn find(s: &[u8], i: usize) -> Spot
-    ensures { Found s.now i result }
-{
-    let mut left = i;
-    let mut globals: usize = 0;
-    let mut at: usize = 0;
-    while at < s.len() {
-        let end = line_end(s, at);
-        if s.len() <= end {
-            return Spot::Missing;
+    // Its bytes, laid over a buffer from its start, as far as it goes; how many there are.
+    pub fn put_bytes(&self, out: &mut [u8]) -> usize
+        ensures { (result ≡ length (bytes_in self.now.digits.now))
+            × (out.new ≡ over (bytes_in self.now.digits.now) out.old) }
+    {
+        for (i, pair) in self.digits.chunks_exact(2).enumerate() {
+            put_at(out, i, number(pair, 0, 2) as u8);
         }
-        let k = kind(&s[at..end]);
-        if (k == NAME) & (left == 0) {
-            let start = payload_start(at, end);
-            return Spot::At {
-                global: globals,
-                start,
-                end,
-            };
+        self.digits.len() / 2
+    }
+}
+
+// How many globals a line makes: one, if it says a global or a name.
+#[tactic(auto, unfolding(crate::specs::Sections::adds))]
+fn globals_on(line: &[u8]) -> usize
+    ensures { result ≡ length (adds Globals 0 0 (kind_of line.now) (payload_of line.now)) }
+{
+    match kind_of(line) {
+        Some(Kind::Global | Kind::Name) => 1,
+        _ => 0,
+    }
+}
+
+// The names on the lines of a text, with how many globals stand before them.
+#[derive(Drop)]
+pub struct Names<'a> {
+    lines: Lines<'a>,
+    globals: usize,
+    ghost few: { globals + length (lines_in lines.0.now) < 2 ^ 64 },
+}
+
+impl<'a> Names<'a> {
+    ghost use Rattle.text.specs.Names.{names_in};
+    ghost use Rattle.text.specs.Left.{names_left};
+
+    pub fn of(s: &'a [u8]) -> Names<'a>
+        ensures { names_left result ≡ names_in s.now }
+    {
+        Names {
+            lines: Lines(s),
+            globals: 0,
         }
-        let name = one_if(k == NAME);
-        left -= name;
-        globals += one_if(k == GLOBAL) + name;
-        at = end + 1;
     }
-    Spot::Missing
 }
 
-// One byte more; past the buffer's end it is counted only.
-fn put_byte(v: u64, out: &mut [u8], n: usize) -> usize
-    requires { (v < 256) × (n + 1 < 2 ^ 64) }
-    ensures { Written out.old n (v ∷ []) out.new result }
-{
-    if n < out.len() {
-        out[n] = v as u8;
-        return n + 1;
-    }
-    n + 1
-}
+impl<'a> Iterator for Names<'a> {
+    ghost use Rattle.text.specs.Left.{name_of, names_left};
 
-// The bytes that digits say, laid over a buffer from its start, as far as it goes; how many there
-// are.
-fn put_bytes(p: &[u8], out: &mut [u8]) -> usize
-    ensures { (result ≡ length (bytes_in p.now)) × (out.new ≡ over (bytes_in p.now) out.old) }
-{
-    let mut left = p.len() / 2;
-    let mut at: usize = 0;
-    let mut n: usize = 0;
-    while 0 < left {
-        let v = number(p, at, 2);
-        n = put_byte(v, out, n);
-        at += 2;
-        left -= 1;
-    }
-    n
-}
+    type Item = Named<'a>;
 
-// The name of an image that `i` names stand before, its bytes laid over a buffer from its start, as
-// far as it goes.
-pub fn name(s: &[u8], i: usize, out: &mut [u8]) -> Named
-    ensures { (result ≡ answer_of (name_of i s.now))
-        × (out.new ≡ over (bytes_of (name_of i s.now)) out.old) }
-{
-    match find(s, i) {
-        Spot::At { global, start, end } => {
-            let len = put_bytes(&s[start..end], out);
-            Named::At { global, len }
+    ghost next_gives = { YieldsFirstBy name_of names_left };
+
+    ghost remaining = { item_count names_left };
+
+    fn next(&mut self) -> Option<Named<'a>> {
+        while let Some(line) = self.lines.next() {
+            let global = self.globals;
+            self.globals += globals_on(line);
+            if has_kind(line, Kind::Name) {
+                return Some(Named {
+                    global,
+                    digits: payload_of(line),
+                });
+            }
         }
-        Spot::Missing => Named::Missing,
+        None
     }
 }

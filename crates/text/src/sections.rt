@@ -1,11 +1,14 @@
 // What the lines of an image hold, section by section.
-ghost use Rattle.std.specs.Prelude.{◌≡◌, cond, ◌∷◌, [], ◌+◌, ◌-◌, ◌/◌, ◌≤◌, ◌<◌, ◌^◌, length, drop};
+ghost use Rattle.std.specs.Prelude.{◌≡◌, ◌+◌, ◌≤◌, ◌<◌, ◌^◌, length, [], ◌∷◌};
+ghost use Rattle.std.specs.Iterator.{YieldsFirst, item_count};
 ghost use Rattle.memory.specs.Lists.{over, Written};
-ghost use Rattle.text.specs.Digits.{numbers};
-ghost use Rattle.text.specs.Sections.{adds, section_in};
+ghost use Rattle.text.specs.Kinds.{number_of_kind};
+ghost use Rattle.text.specs.Lines.{kind_of, payload_of};
+ghost use Rattle.text.specs.Sections.{section_in};
 
-use crate::digits::number;
-use crate::lines::{GLOBAL, LOOKUP, NAME, SWITCH, WORD, kind, line_end, payload_start};
+use crate::buffer::put_at;
+use crate::digits::{behind, number};
+use crate::lines::{Kind, Lines, has_kind, kind_of, payload_of};
 
 // The parts of an image. Tables of a kind are three lists: the first key of each, where the entries
 // of each end among those of all, and all entries in a row; a lookup table has a default too.
@@ -22,80 +25,169 @@ pub enum Section {
     LookupEntries,
 }
 
-// One number more, if `here`; past the buffer's end it is counted only.
-fn put(here: bool, v: u64, buf: &mut [u64], n: usize) -> usize
-    requires { n + 1 < 2 ^ 64 }
-    ensures { Written buf.old n (cond here (v ∷ []) []) buf.new result }
-{
-    if here {
-        if n < buf.len() {
-            buf[n] = v;
-            return n + 1;
+// Numbers that a line adds to a section: one that stands alone, and those of `width` digits each.
+#[derive(Drop)]
+struct Numbers<'a> {
+    one: Option<u64>,
+    digits: &'a [u8],
+    width: usize,
+    ghost some_digits: { 0 < width },
+    ghost few_digits: { width ≤ 16 },
+}
+
+impl<'a> Numbers<'a> {
+    ghost use Rattle.text.specs.Left.{numbers_left};
+    ghost use Rattle.text.specs.Sections.{of_kind, targets_in, values_in};
+
+    fn none() -> Numbers<'a>
+        ensures { numbers_left result ≡ [] }
+    {
+        Numbers {
+            one: None,
+            digits: &[],
+            width: 1,
         }
-        return n + 1;
     }
-    n
-}
 
-// How many numbers of `width` digits stand behind the first `from` digits of `len`; 0 unless `here`.
-fn entry_count(here: bool, len: usize, from: usize, width: usize) -> usize
-    requires { 0 < width }
-    ensures { result ≡ cond here ((len - from) / width) 0 }
-{
-    if here {
-        if len < from {
-            return 0;
+    fn one(number: u64) -> Numbers<'a>
+        ensures { numbers_left result ≡ number ∷ [] }
+    {
+        Numbers {
+            one: Some(number),
+            digits: &[],
+            width: 1,
         }
-        return (len - from) / width;
     }
-    0
+
+    // The targets of a jump table's payload.
+    fn targets(p: &'a [u8]) -> Numbers<'a>
+        ensures { numbers_left result ≡ targets_in p.now }
+    {
+        Numbers {
+            one: None,
+            digits: behind(p, 16),
+            width: 4,
+        }
+    }
+
+    // The values of a lookup table's payload.
+    fn values(p: &'a [u8]) -> Numbers<'a>
+        ensures { numbers_left result ≡ values_in p.now }
+    {
+        Numbers {
+            one: None,
+            digits: behind(p, 32),
+            width: 16,
+        }
+    }
+
+    // These on a line of this kind, and none on another.
+    fn on(self, line: &[u8], kind: Kind) -> Numbers<'a>
+        ensures { numbers_left result
+            ≡ of_kind (number_of_kind kind) (kind_of line.now) (numbers_left self.entry) }
+    {
+        if has_kind(line, kind) {
+            self
+        } else {
+            Numbers::none()
+        }
+    }
+
+    // Lays them over a buffer from a place on, as far as it goes; the place behind them.
+    fn put(self, buf: &mut [u64], at: usize) -> usize
+        requires { at + length (numbers_left self) < 2 ^ 64 }
+        ensures { Written buf.old at (numbers_left self.entry) buf.new result }
+    {
+        let mut n = at;
+        for number in self {
+            put_at(buf, n, number);
+            n += 1;
+        }
+        n
+    }
 }
 
-// The numbers of `width` digits behind the first `from` digits of a payload, if `here`.
-fn put_entries(here: bool, p: &[u8], from: usize, width: usize, buf: &mut [u64], n: usize) -> usize
-    requires { (0 < width) × (width ≤ 16) × (n + length p.now + 1 < 2 ^ 64) }
-    ensures { Written buf.old n
-        (cond here (numbers width ((length p.now - from) / width) (drop from p.now)) []) buf.new result }
-{
-    let mut left = entry_count(here, p.len(), from, width);
-    let mut at = from;
-    let mut m = n;
-    while 0 < left {
-        let v = number(p, at, width);
-        m = put(true, v, buf, m);
-        at += width;
-        left -= 1;
+impl Iterator for Numbers<'_> {
+    ghost use Rattle.text.specs.Left.{numbers_left};
+
+    type Item = u64;
+
+    ghost next_gives = { YieldsFirst numbers_left };
+
+    ghost remaining = { item_count numbers_left };
+
+    fn next(&mut self) -> Option<u64> {
+        if let Some(number) = self.one.take() {
+            return Some(number);
+        }
+        let width = self.width;
+        let (digits, rest) = self.digits.split_at_checked(width)?;
+        self.digits = rest;
+        Some(number(digits, 0, width))
     }
-    m
 }
 
-// What a line adds to a section. `targets` and `values` count the entries of the tables so far, with
-// this line's.
-fn add_line(
-    section: Section,
+// How many entries the tables of each kind have up to a line.
+#[derive(Clone, Copy)]
+struct Ends {
     targets: usize,
     values: usize,
-    kind: u64,
-    p: &[u8],
-    buf: &mut [u64],
-    n: usize,
-) -> usize
-    requires { n + length p.now + 2 < 2 ^ 64 }
-    ensures { Written buf.old n (adds section targets values kind p.now) buf.new result }
-{
-    match section {
-        Section::Code => put(kind == WORD, number(p, 0, 16), buf, n),
-        Section::Globals => {
-            let m = put(kind == GLOBAL, number(p, 0, 16), buf, n);
-            put(kind == NAME, 0, buf, m)
+}
+
+impl Ends {
+    ghost use Rattle.text.specs.Sections.{targets_with, values_with};
+
+    // With those of one line more.
+    fn with(self, line: &[u8]) -> Ends
+        requires targets { self.targets + length line.now < 2 ^ 64 }
+        requires values { self.values + length line.now < 2 ^ 64 }
+        ensures targets { result.targets
+            ≡ targets_with self.targets (kind_of line.now) (payload_of line.now) }
+        ensures values { result.values
+            ≡ values_with self.values (kind_of line.now) (payload_of line.now) }
+    {
+        let p = payload_of(line);
+        match kind_of(line) {
+            Some(Kind::Switch) => Ends {
+                targets: self.targets + Numbers::targets(p).count(),
+                ..self
+            },
+            Some(Kind::Lookup) => Ends {
+                values: self.values + Numbers::values(p).count(),
+                ..self
+            },
+            _ => self,
         }
-        Section::SwitchFirsts => put(kind == SWITCH, number(p, 0, 16), buf, n),
-        Section::SwitchEnds => put(kind == SWITCH, targets as u64, buf, n),
-        Section::SwitchEntries => put_entries(kind == SWITCH, p, 16, 4, buf, n),
-        Section::LookupFirsts => put(kind == LOOKUP, number(p, 0, 16), buf, n),
-        Section::LookupDefaults => put(kind == LOOKUP, number(p, 16, 16), buf, n),
-        Section::LookupEnds => put(kind == LOOKUP, values as u64, buf, n),
-        Section::LookupEntries => put_entries(kind == LOOKUP, p, 32, 16, buf, n),
+    }
+}
+
+impl Section {
+    ghost use Rattle.text.specs.Left.{numbers_left};
+    ghost use Rattle.text.specs.Sections.{adds};
+
+    // What a line adds to the section, where the tables up to it have so many entries.
+    #[tactic(auto, unfolding(crate::specs::Sections::adds))]
+    fn numbers<'a>(self, line: &'a [u8], ends: Ends) -> Numbers<'a>
+        ensures { numbers_left result
+            ≡ adds self ends.targets ends.values (kind_of line.now) (payload_of line.now) }
+    {
+        let p = payload_of(line);
+        match self {
+            Section::Code => Numbers::one(number(p, 0, 16)).on(line, Kind::Word),
+            Section::Globals => match kind_of(line) {
+                Some(Kind::Global) => Numbers::one(number(p, 0, 16)),
+                // it is 0 until the name is interned
+                Some(Kind::Name) => Numbers::one(0),
+                _ => Numbers::none(),
+            },
+            Section::SwitchFirsts => Numbers::one(number(p, 0, 16)).on(line, Kind::Switch),
+            Section::SwitchEnds => Numbers::one(ends.targets as u64).on(line, Kind::Switch),
+            Section::SwitchEntries => Numbers::targets(p).on(line, Kind::Switch),
+            Section::LookupFirsts => Numbers::one(number(p, 0, 16)).on(line, Kind::Lookup),
+            Section::LookupDefaults => Numbers::one(number(p, 16, 16)).on(line, Kind::Lookup),
+            Section::LookupEnds => Numbers::one(ends.values as u64).on(line, Kind::Lookup),
+            Section::LookupEntries => Numbers::values(p).on(line, Kind::Lookup),
+        }
     }
 }
 
@@ -105,22 +197,14 @@ pub fn gather(s: &[u8], section: Section, buf: &mut [u64]) -> usize
     ensures { (result ≡ length (section_in section s.now))
         × (buf.new ≡ over (section_in section s.now) buf.old) }
 {
-    let mut targets: usize = 0;
-    let mut values: usize = 0;
-    let mut n: usize = 0;
-    let mut at: usize = 0;
-    while at < s.len() {
-        let end = line_end(s, at);
-        if s.len() <= end {
-            return n;
-        }
-        let k = kind(&s[at..end]);
-        let start = payload_start(at, end);
-        let p = &s[start..end];
-        targets += entry_count(k == SWITCH, p.len(), 16, 4);
-        values += entry_count(k == LOOKUP, p.len(), 32, 16);
-        n = add_line(section, targets, values, k, p, buf, n);
-        at = end + 1;
+    let mut ends = Ends {
+        targets: 0,
+        values: 0,
+    };
+    let mut n = 0;
+    for line in Lines(s) {
+        ends = ends.with(line);
+        n = section.numbers(line, ends).put(buf, n);
     }
     n
 }

@@ -1,24 +1,47 @@
 -- `text::digits::number` meets its contract. Assumes nothing.
-use mathlib.Core.Path.{refl}
-use native.Mathlib.Omega.{arith}
-use Rattle.text.proofs.Numbers.{number-start, number_fits, number_short, number-next, number-end}
+use Rattle.std.proofs.Common.{refl, length, arith}
+use Rattle.std.proofs.lemmas.Iterator.Consumers.{YieldsList-turn, YieldsList-end, YieldsList-at}
+use Rattle.std.proofs.lemmas.List.{length_push, take_all}
+use Rattle.memory.specs.Lists.{part}
+use Rattle.text.specs.Digits.{read_on}
+use Rattle.text.proofs.Numbers.{YieldsList-part, number_small, number_more, digit_small}
 use Rattle.text.proofs.digits.number.Goals as goal
 
-pub loop-left-init : goal.loop-left-init
-loop-left-init c = number-start _ _ _
-
-pub returns-then-p-i : goal.returns-then-p-i
-returns-then-p-i c = number_short _ _ _ _ _ _ c.loop-left.invariant c.if-p-i.true
+pub loop-c-init : goal.loop-c-init
+unfolding read_on
+loop-c-init c = (tt, tt, refl)
 
 -- one digit more fits
 pub overflow_mul-w : goal.overflow_mul-w
-overflow_mul-w c = omega (arith, number_fits _ _ _ _ _ _ c.loop-left.invariant c.loop-left-test.true c.requires)
+overflow_mul-w c =
+    let road = YieldsList-at c.into_iter-c-iterator.ensures.into_iter_gives (YieldsList-part c.args.from c.args.width c.args.p.now
+    c.iter.ensures.rest c.skip.ensures.source c.skip.ensures.count c.take-c-items.ensures.source c.take-c-items.ensures.count) in
+    let turn = YieldsList-turn road c.loop-c.yielded _ c.loop-c.yielded_by _ _ c.in-Some.field-0 c.in-Some.is c.next.ensures.steps in
+    omega (arith, number_small c.args.from c.args.width c.args.p.now c.requires _ _ c.loop-c.invariant.2 c.in-Some.field-0.now turn)
 
 pub overflow_add-w : goal.overflow_add-w
-overflow_add-w c = omega (arith, number_fits _ _ _ _ _ _ c.loop-left.invariant c.loop-left-test.true c.requires)
+overflow_add-w c =
+    let road = YieldsList-at c.into_iter-c-iterator.ensures.into_iter_gives (YieldsList-part c.args.from c.args.width c.args.p.now
+    c.iter.ensures.rest c.skip.ensures.source c.skip.ensures.count c.take-c-items.ensures.source c.take-c-items.ensures.count) in
+    let turn = YieldsList-turn road c.loop-c.yielded _ c.loop-c.yielded_by _ _ c.in-Some.field-0 c.in-Some.is c.next.ensures.steps in
+    omega (
+      arith,
+      number_small c.args.from c.args.width c.args.p.now c.requires _ _ c.loop-c.invariant.2 c.in-Some.field-0.now turn,
+      digit_small c.args.from c.args.width c.args.p.now c.requires _ _ c.loop-c.invariant.2 c.in-Some.field-0.now turn _ c.digit.ensures,
+      c.unwrap_or.ensures,
+    )
 
-pub loop-left-preserved : goal.loop-left-preserved
-loop-left-preserved c = number-next _ _ _ _ _ _ c.loop-left.invariant _ _ c.loop-left-test.true refl c.if-p-i.false c.digit-d.ensures
+pub loop-c-preserved : goal.loop-c-preserved
+loop-c-preserved c =
+    let road = YieldsList-at c.into_iter-c-iterator.ensures.into_iter_gives (YieldsList-part c.args.from c.args.width c.args.p.now
+    c.iter.ensures.rest c.skip.ensures.source c.skip.ensures.count c.take-c-items.ensures.source c.take-c-items.ensures.count) in
+    let turn = YieldsList-turn road c.loop-c.yielded _ c.loop-c.yielded_by _ _ c.in-Some.field-0 c.in-Some.is c.next.ensures.steps in
+    let more = number_more c.args.from c.args.width c.args.p.now c.requires _ _ c.loop-c.invariant.2 c.in-Some.field-0.now turn _ c.digit.ensures in
+    (tt, tt, rw (length_push c.loop-c.yielded c.in-Some.field-0, c.unwrap_or.ensures) more)
 
 pub returns : goal.returns
-returns c = number-end _ _ _ _ _ _ c.loop-left.invariant c.loop-left-test.false
+returns c =
+    let road = YieldsList-at c.into_iter-c-iterator.ensures.into_iter_gives (YieldsList-part c.args.from c.args.width c.args.p.now
+    c.iter.ensures.rest c.skip.ensures.source c.skip.ensures.count c.take-c-items.ensures.source c.take-c-items.ensures.count) in
+    let end = YieldsList-end road c.loop-c.yielded _ c.loop-c.yielded_by _ _ c.in-None.is c.next.ensures.steps in
+    rw (end.1, take_all (length (part c.args.from c.args.width c.args.p.now)) (part c.args.from c.args.width c.args.p.now) (omega arith)) at c.loop-c.invariant.2

@@ -1,9 +1,10 @@
 -- `text::digits::number`: its loops. Assumes nothing.
-use Rattle.text.proofs.Numbers.{Partly}
+use Rattle.std.proofs.Common.{◌≡◌, length, take}
+use Rattle.memory.specs.Lists.{part}
+use Rattle.text.specs.Digits.{read_on}
 use Rattle.text.proofs.digits.number.Given as goal
 
-abbrev pub invariant-loop-left : goal.invariant-loop-left
-invariant-loop-left l = Partly l.p l.from l.width l.i l.left l.w
-
-abbrev pub decreases-loop-left : goal.decreases-loop-left
-decreases-loop-left l = l.left
+abbrev pub invariant-loop-c : goal.invariant-loop-c
+invariant-loop-c l =
+    (goal.iterator-loop-c).can_next l.c-iterator × (goal.iterator-loop-c).is_finite l.c-iterator
+    × (l.w ≡ read_on 0 (take (length l.yielded) (part l.from l.width l.p)))

@@ -1,46 +1,24 @@
 -- `text::sections::gather` meets its contract. Assumes nothing.
-use lib.Dec.{eqb}
-use native.Mathlib.Omega.{arith}
-use Rattle.text.proofs.Gathering.{gather_start, gather_cut, gather_end, entries_fit, numbers_fit, gather_next}
+use Rattle.std.proofs.Common.{arith}
+use Rattle.text.proofs.Gathering.{gather_start, gather_end, targets_fit, values_fit, numbers_fit, gather_next}
 use Rattle.text.proofs.sections.gather.Goals as goal
 
-pub loop-at-init : goal.loop-at-init
-loop-at-init c = gather_start _ _ _
+pub loop-line-init : goal.loop-line-init
+loop-line-init c = (tt, tt, rw c.into_iter-line-iterator.ensures.into_iter_gives (gather_start c.args.s.now c.args.section _))
 
-pub line_end-end-requires : goal.line_end-end-requires
-line_end-end-requires c = c.loop-at.invariant.within
+pub with-ends-requires-clause-targets : goal.with-ends-requires-clause-targets
+with-ends-requires-clause-targets c = omega (arith, targets_fit c.loop-line.invariant.2 c.in-Some.ensures.steps)
 
-pub shape_of-buf-then-s-end : goal.shape_of-buf-then-s-end
-shape_of-buf-then-s-end c = c.loop-at.invariant.long
+pub with-ends-requires-clause-values : goal.with-ends-requires-clause-values
+with-ends-requires-clause-values c = omega (arith, values_fit c.loop-line.invariant.2 c.in-Some.ensures.steps)
 
-pub returns-then-s-end : goal.returns-then-s-end
-returns-then-s-end c = gather_cut _ _ _ _ _ _ _ _ c.loop-at.invariant _ c.line_end-end.ensures c.if-s-end.true c.loop-at-test.true
+pub put-n-requires : goal.put-n-requires
+put-n-requires c =
+    omega (arith, numbers_fit c.loop-line.invariant.2 c.in-Some.ensures.steps c.with-ends.ensures.targets c.with-ends.ensures.values c.numbers.ensures)
 
-pub overflow_add-targets : goal.overflow_add-targets
-overflow_add-targets c =
-    let fits = entries_fit _ _ _ _ c.line_end-end.ensures c.payload_start-start.ensures (eqb c.kind-k.result 3) 16 4 _
-    _ c.loop-at.invariant.few-targets c.entry_count-targets.ensures in
-    omega (arith, fits, c.line_end-end.ensures.1)
-
-pub overflow_add-values : goal.overflow_add-values
-overflow_add-values c =
-    let fits = entries_fit _ _ _ _ c.line_end-end.ensures c.payload_start-start.ensures (eqb c.kind-k.result 4) 32 16
-    _ _ c.loop-at.invariant.few_values c.entry_count-values.ensures in
-    omega (arith, fits, c.line_end-end.ensures.1)
-
-pub add_line-n-requires : goal.add_line-n-requires
-add_line-n-requires c =
-    let fits = numbers_fit _ _ _ _ c.line_end-end.ensures c.payload_start-start.ensures _ c.loop-at.invariant.few in
-    omega (arith, fits, c.loop-at-test.true, c.if-s-end.false)
-
-pub loop-at-preserved : goal.loop-at-preserved
-loop-at-preserved c =
-    gather_next _ _ _ _ _ _ _ _ c.loop-at.invariant _ c.line_end-end.ensures _ _ c.kind-k.ensures c.payload_start-start.ensures
-    _ _ c.entry_count-targets.ensures c.entry_count-values.ensures c.if-s-end.false _ _ c.add_line-n.ensures
-    c.add_line-n.auto.buf
-
-pub shape_of-buf : goal.shape_of-buf
-shape_of-buf c = c.loop-at.invariant.long
+pub loop-line-preserved : goal.loop-line-preserved
+loop-line-preserved c =
+    (tt, tt, gather_next c.loop-line.invariant.2 c.in-Some.ensures.steps c.with-ends.ensures.targets c.with-ends.ensures.values c.numbers.ensures c.put-n.ensures)
 
 pub returns : goal.returns
-returns c = gather_end _ _ _ _ _ _ _ _ c.loop-at.invariant c.loop-at-test.false
+returns c = gather_end c.loop-line.invariant.2 c.in-None.ensures.steps.0

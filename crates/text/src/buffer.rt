@@ -1,0 +1,11 @@
+// A buffer that is written as far as it goes.
+ghost use Rattle.std.specs.Prelude.{◌≡◌, slice_set};
+
+// Past the buffer's end nothing is written.
+pub fn put_at<T: Copy>(buf: &mut [T], at: usize, x: T)
+    ensures { buf.new ≡ slice_set buf.old at x }
+{
+    if at < buf.len() {
+        buf[at] = x;
+    }
+}
