@@ -1,10 +1,10 @@
 // The image runner: from the text of an image to the text of its report, within the runner's limits.
 #![tactic(auto)]
 
-ghost use Rattle.std.specs.Prelude.{◌≡◌, true, length};
-ghost use Rattle.text.specs.Text.{text_ok, head_of};
+ghost use Rattle.std.specs.Prelude.{◌≡◌, length};
+ghost use Rattle.report.specs.Report.{written_of};
 ghost use Rattle.text.specs.Sections.{section_in};
-ghost use Rattle.image_runner.specs.Runner.{sections_fit, room_for, image_text, answer_of};
+ghost use Rattle.image_runner.specs.Runner.{sections_fit, room_for, answer_of};
 
 use anomaly::Refusal;
 use gc::PAGE_SIZE;
@@ -75,14 +75,13 @@ fn room_for(input: &[u8], head: Head) -> bool
         && sections_fit(input)
 }
 
-// An image joined in a buffer of the runner's limits, and rated.
-fn image_text(input: &[u8], head: Head) -> Text
-    requires image { text_ok input.now ≡ true }
-    requires head { head ≡ head_of input.now }
-    ensures { result.bytes ≡ image_text (room_for head input.now) input.now head }
+// An image read, joined in a buffer of the runner's limits, and rated.
+fn image_text(input: &[u8]) -> Result<Text, Refusal>
+    ensures { written_of result ≡ answer_of input.now }
 {
+    let head = text::read(input)?;
     if !room_for(input, head) {
-        return refusal_text(Refusal::Size);
+        return Err(Refusal::Size);
     }
     let frame_count = head.frames as usize;
     let heap_size = head.pages as usize * PAGE_SIZE;
@@ -94,7 +93,7 @@ fn image_text(input: &[u8], head: Head) -> Text
     let mut spare = [0u64; MAX_SLOTS];
     let mut name = [0u8; MAX_NAME];
     let total = join(input, &mut words);
-    rate(
+    Ok(rate(
         input,
         head,
         &mut words[..total],
@@ -103,15 +102,12 @@ fn image_text(input: &[u8], head: Head) -> Text
         &mut slots[..slot_count],
         &mut spare[..slot_count],
         &mut name,
-    )
+    ))
 }
 
-// The runner's output for an input.
+// The runner's output for an input: its report, or the number of what it is refused by.
 pub fn answer(input: &[u8]) -> Text
     ensures { result.bytes ≡ answer_of input.now }
 {
-    match text::read(input) {
-        Ok(head) => image_text(input, head),
-        Err(why) => refusal_text(why),
-    }
+    image_text(input).unwrap_or_else(refusal_text)
 }

@@ -1,5 +1,8 @@
 -- Document 01, 'Instruction and image': what is printed of a run and of a refusal. Definitions only.
-use Rattle.std.specs.Prelude.{ℕ, suc, ◌+◌, ◌*◌, ◌/◌, cond, List, [], ◌∷◌, ◌++◌, eqb}
+use Rattle.std.specs.Prelude.{ℕ, suc, ◌+◌, ◌*◌, ◌/◌, cond, List, [], ◌∷◌, ◌++◌, eqb, Result, Ok, Err}
+use Rattle.arrayvec.specs.ArrayString.{ArrayString as Text}
+use Rattle.anomaly.specs.declared.Refusal.{Refusal}
+use Rattle.anomaly.specs.Table.{number_of_refusal}
 use Rattle.gc.specs.Lent.{page_size}
 use Rattle.report.specs.Hex.{hex_of}
 use Rattle.report.specs.declared.Summary.{Summary}
@@ -34,3 +37,8 @@ longest = 27 + 19 * 32 + 21
 -- 'A refusal, of an interning too, is its number alone in two digits.'
 unfoldable pub refusal_of : ℕ → List ℕ
 refusal_of number = hex_of 2 number ++ line_feed
+
+-- what is written of a call: its text, or the number by which it was refused
+abbrev pub written_of : Result Text Refusal → List ℕ
+written_of (Ok text) = text.bytes
+written_of (Err why) = refusal_of (number_of_refusal why)

@@ -22,7 +22,7 @@ pub const LONGEST: usize = 27 + 19 * REGISTERS + 21;
 pub type Text = ArrayString<LONGEST>;
 
 // What a report shows beside the registers. `pushed` counts the bytes of pushed pages, `len`
-// is the length of the last page, `strings` the count of stored names.
+// is the length of the last page, `strings` the count of stored names. `end` is a number: it is printed, and no code tells ends apart by it.
 #[derive(Clone, Copy)]
 pub struct Summary {
     pub end: u64,
