@@ -5,6 +5,7 @@ ghost use Rattle.std.specs.Prelude.{◌≡◌, slice_set};
 pub fn put_at<T: Copy>(buf: &mut [T], at: usize, x: T)
     ensures { buf.new ≡ slice_set buf.old at x }
 {
+    // by index: a proof does not know what is written through `get_mut`
     if at < buf.len() {
         buf[at] = x;
     }
