@@ -10,7 +10,7 @@ use Rattle.value.specs.Int.{signed, pattern}
 use Rattle.value.specs.Int as Int
 use Rattle.value.specs.Double.{bits}
 use Rattle.string.specs.Hash.{mixed, folded, chunks, hash_of, small_hash_of}
-use Rattle.string.specs.Payload.{payload_of, reaches, headed, holds}
+use Rattle.string.specs.Payload.{payload_of, reaches, headed, holds, small_ok}
 use Rattle.str_table.specs.Table.{home, probe, lookup, never, filled, placed}
 use Rattle.str_table.specs.Grow.{stored_hash, moved_one, moved, room_of, widened, with_room, spare_after}
 use Rattle.str_table.specs.Sound as Table
@@ -31,7 +31,7 @@ use Rattle.vm.specs.Names as Names
 use Rattle.vm.specs.Machine.{Lent, Machine, sizes, memory_of, view, with_pages, with_names, traced, with_frames, with_regs, allocate, option}
 use Rattle.vm.specs.Machine.{intern, intern_small, Call, run, host, Answer, ended, value, done, refused, ran, idle, runs, hosted, with_setting, laid}
 use Rattle.vm.specs.Machine.{run_leaves, host_leaves, granted, host_call, run_call, act, frames_ok, heap_ok, slots_ok, returns_ok, frames_belong}
-use Rattle.vm.specs.Machine.{pages_belong, names_belong, small_ok, tests_by, tests, tried, perform, Started, declined, begun, first_page, first_memory}
+use Rattle.vm.specs.Machine.{pages_belong, names_belong, tests_by, tests, tried, perform, Started, declined, begun, first_page, first_memory}
 use Rattle.vm.specs.Machine.{blank, begin, starts, start}
 
 -- ---- images, buffers, and what is read off

@@ -3,9 +3,9 @@
 
 use gc::{AllocType, Gc, Metadata};
 use std::io;
-use str_table::{Probe, StrTable};
+use str_table::StrTable;
 use string::fxhash::{hash, small_hash};
-use string::payload::write_payload;
+use string::payload::{Pushed, write_payload};
 use value::int::Divided;
 use value::{Value, double, int};
 
@@ -115,14 +115,12 @@ fn found(s: &[u8]) -> u64 {
     let mut heap = [0u8; 4096];
     let mut slots = [0u64; 64];
     let mut spare = [0u64; 64];
-    let stored = hash(b"a");
-    write_payload(&mut heap[48..], b"a", stored);
+    let name: &[u8] = b"a";
+    write_payload(&mut heap[48..], name, hash(name));
+    let pushed = Pushed { base, bytes: &heap };
     let t = StrTable { active: 0, len: 0 };
-    t.insert(base, &heap, stored, 65584, &mut slots, &mut spare);
-    match str_table::get(base, &heap, &slots, s, hash(s)) {
-        Probe::Found(v) => v,
-        Probe::Vacant(_) | Probe::Full => 0,
-    }
+    t.insert(pushed, hash(name), 65584, &mut slots, &mut spare);
+    str_table::get(pushed, &slots, s, hash(s)).unwrap_or(0)
 }
 
 fn names(rt: &impl Print) -> io::Result<()> {

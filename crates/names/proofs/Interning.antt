@@ -3,28 +3,23 @@ use mathlib.Core.Path.{◌≡◌, refl, sym, ap, ◌∙◌}
 use Prim.Native.Nat.{ℕ, ◌+◌, ◌≤◌, ◌<◌}
 use mathlib.Core.Bool.{true, false}
 use mathlib.Core.Option.{Option, none, some}
-use mathlib.Core.List.{List, [], ◌∷◌, append-nil}
+use mathlib.Core.List.{List, [], ◌∷◌}
 use native.Mathlib.Omega.{arith}
-use lib.ListN.{length, take, drop_of_length-le}
+use lib.ListN.{length, take}
 use lib.Seq.{length-take-le}
 use lib.Dec.{leb}
-use mathlib.Core.Logic.{◌⊎◌, inl, inr}
 use borrow.Author.Tests.{leb-true, le-leb, lt-leb, le-ltb}
-use Rattle.memory.specs.Bytes.{bytes_of}
-use Rattle.memory.specs.Lists.{write}
-use Rattle.memory.proofs.Over.{over-is, over-take, take-over, length_over}
-use Rattle.memory.proofs.Bytes.{length-bytes_of}
+use Rattle.memory.proofs.Over.{over-take, take-over, length_over}
 use Rattle.anomaly.specs.declared.Refusal.{Refusal}
 use Rattle.anomaly.specs.Table.{number_of_refusal}
 use Rattle.str_table.specs.declared.StrTable.{StrTable}
-use Rattle.str_table.specs.declared.Probe.{Probe}
-use Rattle.string.specs.Hash.{hash_of, small_hash_of}
+use Rattle.std.specs.Prelude as std
+use Rattle.string.specs.Hash.{hash_of}
 use Rattle.string.specs.Payload.{holds, small_name}
-use Rattle.str_table.specs.Table.{lookup, placed}
+use Rattle.str_table.specs.Table.{lookup, found_value, placed}
 use Rattle.str_table.specs.Grow.{room_of, with_room, spare_after, Inserted, inserted, insert_of}
 use Rattle.str_table.proofs.Probes.{length-placed}
 use Rattle.str_table.proofs.Moves.{room_holds, length-with_room}
-use Rattle.string.proofs.Small.{small_hash_is}
 use Rattle.gc.specs.declared.Gc.{Gc}
 use Rattle.std.specs.Prelude as std
 use Rattle.gc.proofs.Blocks.{GivenAt, some_said, none_said}
@@ -43,7 +38,6 @@ use Rattle.vm.specs.Told.{machine_of, holding}
 use Rattle.names.specs.Interned.{written, name_block, Belong, tested_of}
 use Rattle.vm.proofs.Performed.{refuses, refused-is, acted_is}
 use Rattle.vm.proofs.Fits.{short-names, view-within, view-fits}
-use Rattle.names.proofs.SmallOk.{small_says}
 
 -- ---- a new name
 
@@ -67,12 +61,6 @@ module _ (g : Gc) (name : List ℕ) (hash : ℕ) (heap : List ℕ) (r : std.Opti
   pub name_bytes : take to.pushed x ≡ given.pages.bytes
   unfolding numbers_of
   name_bytes = rw (name_given.numbers, name_given.bytes) (take-over given.pages.bytes heap given_in)
-
--- probing ended at a vacant slot, or at none
-pub new_name : (name : List ℕ) (l : Memory) (p : Probe) → ((i : ℕ) × (p ≡ Probe.Vacant i)) ⊎ (p ≡ Probe.Full) → known name l p ≡ fresh name l
-unfolding known
-new_name name l p (inl e) = rw e.1 refl
-new_name name l p (inr e) = rw e refl
 
 module _ (s : State) (l : Lent) (name : List ℕ) where
   abbrev machine : Machine
@@ -179,44 +167,40 @@ module _ (s : State) (l : Lent) (name : List ℕ) where
     unfolding host_call granted
     found-done v = rw (own_short, own_leaves) refl
 
+    -- ---- by what the table gave
+
+    abbrev probed : ℕ → std.Option ℕ
+    probed hash = found_value (lookup (holds s.gc.base (take s.gc.pushed heap) name hash) (take s.strings.active slots) hash)
+
+    abbrev done : Called
+    done = host_call (intern name) machine (interned name (memory_of machine))
+
+    module _ (hash : ℕ) (q : hash ≡ hash_of name) (p : std.Option ℕ) (is : p ≡ probed hash) where
+      known_is : known name (memory_of machine) p ≡ interned name (memory_of machine)
+      unfolding interned memory_of pages_of
+      known_is = rw (is, q) refl
+
+      pub told_found : (v : ℕ) → p ≡ std.Some v → record { answer = value v; machine = machine } ≡ done
+      unfolding known
+      told_found v e = found-done v ∙ ap (host_call (intern name) machine) (ap (known name (memory_of machine)) (sym e) ∙ known_is)
+
+      pub told_fresh : p ≡ std.None → (x : Called) → x ≡ host_call (intern name) machine (fresh name (memory_of machine)) → x ≡ done
+      unfolding known
+      told_fresh e x f = f ∙ ap (host_call (intern name) machine) (ap (known name (memory_of machine)) (sym e) ∙ known_is)
+
   -- ---- the tests in turn
-
-  abbrev probed : ℕ → Probe
-  probed hash = lookup (holds s.gc.base (take s.gc.pushed heap) name hash) (take s.strings.active slots) hash
-
-  found-is : (hash : ℕ) → hash ≡ hash_of name → (p : Probe) → p ≡ probed hash → known name (memory_of machine) p ≡ interned name (memory_of machine)
-  unfolding interned memory_of pages_of
-  found-is hash h p e = rw (e, h) refl
 
   pub intern-refused : (why : Refusal) → tested_of (Tested.Failed why) ≡ failing (name_tests (found s machine.lent))
       → refuses (number_of_refusal why) machine ≡ perform (host (intern name)) machine
   unfolding tests tests_by tested_of
   intern-refused why f = refused-is (host (intern name)) machine _ (sym f)
 
-  pub intern-told : none ≡ failing (name_tests (found s machine.lent)) → (hash : ℕ) → hash ≡ hash_of name → (p : Probe) (x : Called)
-      → x ≡ host_call (intern name) machine (known name (memory_of machine) p)
-      → p ≡ probed hash → x ≡ perform (host (intern name)) machine
+  pub intern-told : none ≡ failing (name_tests (found s machine.lent)) → (x : Called)
+      → x ≡ host_call (intern name) machine (interned name (memory_of machine)) → x ≡ perform (host (intern name)) machine
   unfolding tests tests_by act hosted
-  intern-told f hash h p x e q = e ∙ ap (host_call (intern name) machine) (found-is hash h p q) ∙ acted_is (host (intern name)) machine (sym f)
+  intern-told f x e = e ∙ acted_is (host (intern name)) machine (sym f)
 
--- ---- a small name, unpacked
-
-module _ (n w : ℕ) (k : small_ok n w ≡ true) (old x : List ℕ) (long : length old ≡ 8) (e : x ≡ write 0 (bytes_of 8 w) old) where
-  unpacked : x ≡ bytes_of 8 w
-  unfolding write
-  unpacked =
-      let l = length-bytes_of 8 w in
-      let h : length old ≤ length (bytes_of 8 w) = omega arith in
-      e ∙ over-is (bytes_of 8 w) old (omega arith) ∙ rw (drop_of_length-le old h, append-nil) refl
-
-  pub small_room : n ≤ length x
-  small_room = rw (unpacked, length-bytes_of) (small_says n w k).0
-
-  pub small_bytes : take n x ≡ small_name n w
-  small_bytes = ap (take n) unpacked
-
-  pub small_hashed : (hash : ℕ) → hash ≡ small_hash_of n w → hash ≡ hash_of (take n x)
-  small_hashed hash h = let fine = small_says n w k in h ∙ small_hash_is n w fine.0 fine.1 ∙ ap hash_of (sym small_bytes)
+-- ---- a small name
 
 module _ (s : State) (l : Lent) (n w : ℕ) where
   abbrev small_machine : Machine
@@ -243,12 +227,9 @@ module _ (s : State) (l : Lent) (n w : ℕ) where
     unfolding failing
     small_17 k = refused-is (host (intern_small n w)) small_machine 17 (small_tests ∙ rw k refl)
 
-    pub small_told : small_ok n w ≡ true → (hash : ℕ) → hash ≡ small_hash_of n w → (name : List ℕ) → name ≡ small_name n w
-        → (p : Probe) (x : Called) → x ≡ host_call (intern name) small_machine (known name (memory_of small_machine) p)
-        → p ≡ probed s l (small_name n w) hash
+    pub small_told : small_ok n w ≡ true → (len word : ℕ) → len ≡ n → word ≡ w → (x : Called)
+        → x ≡ host_call (intern (small_name len word)) small_machine (interned (small_name len word) (memory_of small_machine))
         → x ≡ perform (host (intern_small n w)) small_machine
     unfolding act hosted host_call failing
-    small_told k hash h name i p x e q =
-        let fine = small_says n w k in
-        e ∙ rw (i, found-is s l (small_name n w) hash (h ∙ small_hash_is n w fine.0 fine.1) p q) (as_name _ _)
-        ∙ acted_is (host (intern_small n w)) small_machine (small_tests ∙ rw k refl)
+    small_told k len word p q x e =
+        (rw (p, q) at e) ∙ as_name _ _ ∙ acted_is (host (intern_small n w)) small_machine (small_tests ∙ rw k refl)

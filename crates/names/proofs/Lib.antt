@@ -1,5 +1,4 @@
 -- The laws of an interning.
-pub mod SmallOk
 pub mod Tests
 pub mod NameBlock
 pub mod Interning

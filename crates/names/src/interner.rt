@@ -4,15 +4,16 @@ ghost use Rattle.string.specs.Hash.{hash_of};
 ghost use Rattle.gc.specs.Lent.{pages_of, outcome, granted_in, InHeap};
 ghost use Rattle.program.specs.Image.{failing};
 ghost use Rattle.vm.specs.declared.State.{State};
-ghost use Rattle.vm.specs.Names.{fresh, known};
-ghost use Rattle.vm.specs.Machine.{Lent, lend_names, memory_of, intern, intern_small, host, host_call, small_ok, found, name_tests, perform};
+ghost use Rattle.vm.specs.Names.{fresh, interned};
+ghost use Rattle.vm.specs.Machine.{Lent, lend_names, memory_of, intern, intern_small, host, host_call, found, name_tests, perform};
 ghost use Rattle.vm.specs.Told.{machine_of, holding, told};
 ghost use Rattle.names.specs.Interned.{name_block, Belong, tested_of, interned_in};
 
 use anomaly::Refusal;
 use gc::{AllocType, Gc, Metadata};
-use str_table::{Probe, StrTable};
-use string::{fxhash, payload};
+use str_table::StrTable;
+use string::name::{Name, SmallName};
+use string::payload::{self, Pushed};
 use vm::{Reply, lent};
 
 // What comes of the tests of an interning.
@@ -30,28 +31,18 @@ pub struct Interned {
     pub strings: StrTable,
 }
 
-// A block with the header and the bytes of `s`, whose hash is `hash`.
-fn store(gc: &mut Gc, s: &[u8], hash: u32, heap: &mut [u8]) -> Option<u64>
+// A block with the header and the bytes of a name, whose hash is `hash`.
+fn store<N: Name>(gc: &mut Gc, name: N, hash: u32, heap: &mut [u8]) -> Option<u64>
     requires { InHeap gc.old heap.old }
     ensures { outcome result gc.new heap.new
-        ≡ granted_in (name_block s.now hash (pages_of gc.old heap.old)) gc.old heap.old }
+        ≡ granted_in (name_block (N.bytes name) hash (pages_of gc.old heap.old)) gc.old heap.old }
 {
     let base = gc.base;
-    let size = payload::payload_size(s.len());
+    let size = payload::payload_size(name.len());
     let address = gc.alloc(Metadata::new(AllocType::String, false, size), heap)?;
     let at = (address - base) as usize;
-    payload::write_payload(&mut heap[at..], s, hash);
+    payload::write_payload(&mut heap[at..], name, hash);
     Some(address)
-}
-
-// At most 8 bytes, and zero above them: refusal 17.
-fn small_ok(len: usize, word: u64) -> bool
-    ensures { result ≡ small_ok len word }
-{
-    if 8 <= len {
-        return len == 8;
-    }
-    word >> (len * 8) == 0
 }
 
 // 10, then 9.
@@ -81,32 +72,35 @@ fn refused(gc: Gc, strings: StrTable, why: Refusal) -> Interned
 }
 
 // A name that is not there yet. The slots are tested first: 18 before 2.
-fn fresh(
+fn fresh<N: Name>(
     gc: Gc,
     strings: StrTable,
-    s: &[u8],
+    name: N,
     hash: u32,
     heap: &mut [u8],
     slots: &mut [u64],
     spare: &mut [u64],
 ) -> Interned
-    requires { Belong gc strings heap.old slots.old spare.old × (hash ≡ hash_of s.now) }
+    requires { Belong gc strings heap.old slots.old spare.old × (hash ≡ hash_of (N.bytes name)) }
     ensures { (rest : State) (l : Lent)
         → told (interned_in rest result) (lend_names heap.new slots.new spare.new l)
-        ≡ host_call (intern s.now)
+        ≡ host_call (intern (N.bytes name))
         (machine_of (holding rest gc strings) (lend_names heap.old slots.old spare.old l))
-        (fresh s.now (memory_of
+        (fresh (N.bytes name) (memory_of
         (machine_of (holding rest gc strings) (lend_names heap.old slots.old spare.old l)))) }
 {
     if slots.len() < strings.room() {
         return refused(gc, strings, Refusal::TableFull);
     }
     let mut to = gc;
-    let Some(address) = store(&mut to, s, hash, heap) else {
+    let Some(address) = store(&mut to, name, hash, heap) else {
         return refused(gc, strings, Refusal::Memory);
     };
-    let pushed = to.pushed;
-    let table = strings.insert(to.base, &heap[..pushed], hash, address, slots, spare);
+    let pushed = Pushed {
+        base: to.base,
+        bytes: &heap[..to.pushed],
+    };
+    let table = strings.insert(pushed, hash, address, slots, spare);
     Interned {
         reply: Reply::Value(address),
         gc: to,
@@ -114,32 +108,35 @@ fn fresh(
     }
 }
 
-// The value if it was found, or else the new name's.
-fn known(
-    found: Probe,
+// The value of a name that is there, or else the new name's.
+fn known<N: Name>(
     gc: Gc,
     strings: StrTable,
-    s: &[u8],
-    hash: u32,
+    name: N,
     heap: &mut [u8],
     slots: &mut [u64],
     spare: &mut [u64],
 ) -> Interned
-    requires { Belong gc strings heap.old slots.old spare.old × (hash ≡ hash_of s.now) }
+    requires { Belong gc strings heap.old slots.old spare.old }
     ensures { (rest : State) (l : Lent)
         → told (interned_in rest result) (lend_names heap.new slots.new spare.new l)
-        ≡ host_call (intern s.now)
+        ≡ host_call (intern (N.bytes name))
         (machine_of (holding rest gc strings) (lend_names heap.old slots.old spare.old l))
-        (known s.now (memory_of
-        (machine_of (holding rest gc strings) (lend_names heap.old slots.old spare.old l))) found) }
+        (interned (N.bytes name) (memory_of
+        (machine_of (holding rest gc strings) (lend_names heap.old slots.old spare.old l)))) }
 {
-    match found {
-        Probe::Found(v) => Interned {
-            reply: Reply::Value(v),
+    let hash = name.hash();
+    let pushed = Pushed {
+        base: gc.base,
+        bytes: &heap[..gc.pushed],
+    };
+    match str_table::get(pushed, &slots[..strings.active], name, hash) {
+        Some(value) => Interned {
+            reply: Reply::Value(value),
             gc,
             strings,
         },
-        Probe::Vacant(_) | Probe::Full => fresh(gc, strings, s, hash, heap, slots, spare),
+        None => fresh(gc, strings, name, hash, heap, slots, spare),
     }
 }
 
@@ -158,13 +155,7 @@ pub fn intern(
 {
     match check(gc, strings, heap, slots, spare) {
         Tested::Failed(why) => refused(gc, strings, why),
-        Tested::Passed => {
-            let hash = fxhash::hash(s);
-            let active = strings.active;
-            let pushed = gc.pushed;
-            let found = str_table::get(gc.base, &heap[..pushed], &slots[..active], s, hash);
-            known(found, gc, strings, s, hash, heap, slots, spare)
-        }
+        Tested::Passed => known(gc, strings, s, heap, slots, spare),
     }
 }
 
@@ -185,24 +176,9 @@ pub fn intern_small(
 {
     match check(gc, strings, heap, slots, spare) {
         Tested::Failed(why) => refused(gc, strings, why),
-        Tested::Passed => {
-            if !small_ok(len, word) {
-                return refused(gc, strings, Refusal::SmallString);
-            }
-            let hash = fxhash::small_hash(len as u64, word);
-            let active = strings.active;
-            let pushed = gc.pushed;
-            let found = str_table::get_small(
-                gc.base,
-                &heap[..pushed],
-                &slots[..active],
-                len,
-                word,
-                hash,
-            );
-            let mut bytes: [u8; 8] = [0; 8];
-            memory::store::<8>(&mut bytes, 0, word);
-            known(found, gc, strings, &bytes[..len], hash, heap, slots, spare)
-        }
+        Tested::Passed => match SmallName::new(len, word) {
+            None => refused(gc, strings, Refusal::SmallString),
+            Some(name) => known(gc, strings, name, heap, slots, spare),
+        },
     }
 }

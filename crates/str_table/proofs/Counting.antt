@@ -1,83 +1,88 @@
 -- Passing over the slots for the test of 9: how many are filled, and where their headers lie. Assumes nothing.
-use mathlib.Core.Path.{◌≡◌, refl, sym, ◌∙◌}
-use Prim.Native.Nat.{ℕ, ◌+◌, ◌-◌, ◌*◌, ◌^◌, ◌≤◌, ◌<◌}
-use mathlib.Core.Bool.{Bool, true, false, cond, ◌&&◌, ◌||◌}
-use mathlib.Core.List.{List}
+use mathlib.Core.Path.{◌≡◌, refl, sym, ap, ◌∙◌}
+use Prim.Native.Nat.{ℕ, ◌+◌, ◌*◌, ◌^◌, ◌≤◌}
+use mathlib.Core.Bool.{Bool, true, false, not, cond, ◌&&◌, ◌||◌}
+use mathlib.Core.List.{List, [], ◌∷◌}
 use native.Mathlib.Omega.{arith}
-use native.Mathlib.Numerals.{add-one}
-use lib.ListN.{length, get_or, drop, drop_of_length-le}
-use lib.Seq.{drop-cons}
+use lib.ListN.{length}
 use lib.Dec.{leb, eqb, lit≤}
-use borrow.Author.Tests.{eq-eqb, ne_eqb, eqb-true, leb-true}
-use Rattle.memory.proofs.Tests.{both, leb_minus}
+use borrow.Author.Tests.{eq-eqb, ne_eqb, eqb-true, eqb-false, leb-true}
+use Rattle.std.proofs.Common.{count_by}
+use Rattle.std.specs.List.{list_all, list_any}
+use Rattle.std.proofs.lemmas.List.Recursion.{is_count_by}
+use Rattle.memory.proofs.Tests.{both}
 use Rattle.string.specs.Payload.{reaches}
 use Rattle.str_table.specs.Sound.{slot_count, active_ok, filled_in, headers_in, count_ok, slots_ok}
 
--- of the first i slots so many are filled, each with its header in pushed pages
-pub record Counting (base n : ℕ) (slots : List ℕ) (filled i : ℕ) : Type 0 where
-  pub within : i ≤ length slots
-  pub few : filled ≤ i
-  pub counts : filled + filled_in (drop i slots) ≡ filled_in slots
-  pub heads : headers_in base n (drop i slots) ≡ headers_in base n slots
+-- what counting and testing all of the slots come to
+filled_in-count_by : (slots : List ℕ) → filled_in slots ≡ count_by (λ v. not (eqb v 0)) slots
+unfolding filled_in
+filled_in-count_by = is_count_by filled_in (λ v. not (eqb v 0)) refl step
+  where
+    step : (v : ℕ) (slots : List ℕ) → filled_in (v ∷ slots) ≡ cond (not (eqb v 0)) (1 + filled_in slots) (filled_in slots)
+    step v slots = go (eqb v 0)
+      where
+        go : (b : Bool) → cond b 0 1 + filled_in slots ≡ cond (not b) (1 + filled_in slots) (filled_in slots)
+        go true = omega arith
+        go false = refl
 
-module _ (base n : ℕ) (slots : List ℕ) where
-  pub counting_start : Counting base n slots 0 0
-  counting_start = record { within = omega arith; few = omega arith; counts = omega arith; heads = refl }
+list_all-headers_in : (base n : ℕ) (slots : List ℕ) → list_all (λ v. eqb v 0 || reaches base n v 8) slots ≡ headers_in base n slots
+unfolding headers_in
+list_all-headers_in base n [] = refl
+list_all-headers_in base n (v ∷ slots) = ap (λ (t : Bool). (eqb v 0 || reaches base n v 8) && t) (list_all-headers_in base n slots)
 
-  module _ (filled i : ℕ) (g : Counting base n slots filled i) where
-    count_turn : i < length slots → filled_in (drop i slots) ≡ cond (eqb (get_or slots i 0) 0) 0 1 + filled_in (drop (i + 1) slots)
-    unfolding filled_in
-    count_turn h = rw (add-one, drop-cons slots i 0) refl
+module _ (base n len : ℕ) (slots : List ℕ) where
+  abbrev Heads : Bool → Type 0
+  Heads r = r ≡ list_all (λ v. eqb v 0 || reaches base n v 8) slots
 
-    heads_turn : i < length slots → headers_in base n (drop i slots)
-        ≡ ((eqb (get_or slots i 0) 0 || reaches base n (get_or slots i 0) 8) && headers_in base n (drop (i + 1) slots))
-    unfolding headers_in
-    heads_turn h = rw (add-one, drop-cons slots i 0) refl
+  abbrev Filled : ℕ → Type 0
+  Filled f = f ≡ count_by (λ v. not (eqb v 0)) slots
 
-    pub counting_skip : (m : ℕ) → i < length slots → get_or slots i 0 ≡ 0 → m ≡ filled → Counting base n slots m (i + 1)
-    counting_skip m h e q =
-        let few = g.few in
-        let counts = g.counts in
-        let c = rw (eq-eqb _ _ e) at (count_turn h) in
-        let t = rw (eq-eqb _ _ e) at (heads_turn h) in
-        record { within = omega arith; few = omega arith; counts = omega (arith, c, counts); heads = sym t ∙ g.heads }
+  pub bad_headers : (r : Bool) → Heads r → r ≡ false → false ≡ slots_ok base n len slots
+  unfolding slots_ok
+  bad_headers r h e = rw (sym (list_all-headers_in base n slots) ∙ sym h ∙ e) refl
 
-    pub counting_one : (m : ℕ) → i < length slots → (get_or slots i 0 ≡ 0 → ⊥) → reaches base n (get_or slots i 0) 8 ≡ true → m ≡ filled + 1
-        → Counting base n slots m (i + 1)
-    counting_one m h e k q =
-        let few = g.few in
-        let counts = g.counts in
-        let c = rw (ne_eqb _ _ e) at (count_turn h) in
-        let t = rw (ne_eqb _ _ e, k) at (heads_turn h) in
-        record { within = omega arith; few = omega arith; counts = omega (arith, c, counts); heads = sym t ∙ g.heads }
+  module _ (r : Bool) (h : Heads r) (t : r ≡ true) (f : ℕ) (c : Filled f) where
+    all_heads : headers_in base n slots ≡ true
+    all_heads = sym (list_all-headers_in base n slots) ∙ sym h ∙ t
 
-    pub bad_header : (len : ℕ) → i < length slots → (get_or slots i 0 ≡ 0 → ⊥) → reaches base n (get_or slots i 0) 8 ≡ false
-        → false ≡ slots_ok base n len slots
-    unfolding slots_ok
-    bad_header len h e k = let t = rw (ne_eqb _ _ e, k) at (heads_turn h) in rw (sym g.heads ∙ t) refl
+    all_filled : filled_in slots ≡ f
+    all_filled = filled_in-count_by slots ∙ sym c
 
-    -- at the end
-    all_heads : length slots ≤ i → headers_in base n slots ≡ true
-    unfolding headers_in
-    all_heads h = rw (drop_of_length-le slots h) at (sym g.heads)
+    pub bad_count : (f ≡ len → ⊥) → false ≡ slots_ok base n len slots
+    unfolding slots_ok count_ok
+    bad_count e = rw (all_heads, all_filled, ne_eqb f len e) refl
 
-    all_filled : length slots ≤ i → filled_in slots ≡ filled
-    unfolding filled_in
-    all_filled h = let u = rw (drop_of_length-le slots h) at g.counts in omega (arith, u)
-
-    module _ (len : ℕ) (h : length slots ≤ i) where
-      pub bad_count : (filled ≡ len → ⊥) → false ≡ slots_ok base n len slots
-      unfolding slots_ok count_ok
-      bad_count e = rw (all_heads h, all_filled h, ne_eqb filled len e) refl
-
-      pub half_full : filled ≡ len → leb len (length slots - len) ≡ slots_ok base n len slots
-      unfolding slots_ok count_ok
-      half_full e =
-          let within = g.within in
-          let few = g.few in
-          rw (all_heads h, all_filled h, eq-eqb filled len e) (leb_minus len len (length slots) (len * 2) (omega arith) (omega arith))
+    pub half_full : f ≡ len → leb (len * 2) (length slots) ≡ slots_ok base n len slots
+    unfolding slots_ok count_ok
+    half_full e = rw (all_heads, all_filled, eq-eqb f len e) refl
 
 -- ---- what a sound table is
+
+eqb_flip : (a b : ℕ) → eqb a b ≡ eqb b a
+eqb_flip a b = go (eqb a b) refl
+  where
+    go : (t : Bool) → eqb a b ≡ t → t ≡ eqb b a
+    go true e = sym (eq-eqb b a (sym (eqb-true a b e)))
+    go false e = sym (ne_eqb b a (λ q. eqb-false a b e (sym q)))
+
+or-false : (b : Bool) → (b || false) ≡ b
+or-false true = refl
+or-false false = refl
+
+-- as a list of them contains it
+pub list_any-slot_count : (n : ℕ) → list_any (λ m. eqb m n) (64 ∷ 128 ∷ 256 ∷ 512 ∷ 1024 ∷ 2048 ∷ 4096 ∷ []) ≡ slot_count n
+unfolding slot_count
+list_any-slot_count n = rw (
+  eqb_flip 64 n,
+  eqb_flip 128 n,
+  eqb_flip 256 n,
+  eqb_flip 512 n,
+  eqb_flip 1024 n,
+  eqb_flip 2048 n,
+  eqb_flip 4096 n,
+  or-false (eqb n 4096),
+) refl
 
 -- what holds of each number of slots that can be lent
 pub slot_cases : (P : ℕ → Type 0) → P 64 → P 128 → P 256 → P 512 → P 1024 → P 2048 → P 4096 → (n : ℕ) → slot_count n ≡ true → P n

@@ -9,7 +9,9 @@ use lib.Bits.{and_le_r}
 use borrow.Author.Tests.{eq-eqb, ne_eqb}
 use Rattle.str_table.specs.declared.Probe.{Probe}
 use Rattle.str_table.specs.declared.Probe.TheVariants.{Found, Vacant, Full}
-use Rattle.str_table.specs.Table.{home, probe, lookup, never, filled, placed}
+use Rattle.str_table.specs.Table.{home, probe, lookup, found_value, never, filled, placed}
+use Rattle.std.proofs.Common.{None}
+use mathlib.Core.Logic.{◌⊎◌, inl, inr}
 
 pub home_lt : (h n : ℕ) → 0 < n → home h n < n
 unfolding home
@@ -66,10 +68,21 @@ module _ (hit : ℕ → Bool) (t : List ℕ) where
           same = sym (probe-next (length t - (k + 1)) i q (sym p ∙ r)) ∙ ap (λ (m : ℕ). probe hit t m i) (sym (left_is e)) ∙ g.same;
         }
 
+-- no value was found
+pub found_none : (p : Probe) → ((i : ℕ) × (p ≡ Vacant i)) ⊎ (p ≡ Full) → found_value p ≡ None
+found_none p (inl e) = ap found_value e.1
+found_none p (inr e) = ap found_value e
+
 -- what placing leaves, by what probing finds
 pub placed-is : (h v : ℕ) (t : List ℕ) (y : Probe) → y ≡ lookup never t h → filled v t y ≡ placed h v t
 unfolding placed
 placed-is h v t y e = ap (filled v t) e
+
+pub filled_none : (v : ℕ) (t : List ℕ) (y : Probe) → ((i : ℕ) → y ≡ Vacant i → ⊥) → filled v t y ≡ t
+unfolding filled
+filled_none v t (Found w) h = refl
+filled_none v t (Vacant i) h = absurd (h i refl)
+filled_none v t Full h = refl
 
 pub length-filled : (v : ℕ) (t : List ℕ) (y : Probe) → length (filled v t y) ≡ length t
 unfolding filled

@@ -1,5 +1,5 @@
 -- `StrTable`: open addressing on the hash with linear probing, 0 for an empty slot. Definitions only.
-use Rattle.std.specs.Prelude.{ℕ, zero, suc, ◌+◌, ◌-◌, Bool, true, false, List, length, get_or, set, eqb}
+use Rattle.std.specs.Prelude.{ℕ, zero, suc, ◌+◌, ◌-◌, Bool, true, false, List, length, get_or, set, eqb, Option, Some, None}
 use Rattle.std.specs.Int.Bits.{bit_and}
 use Rattle.str_table.specs.declared.Probe.{Probe}
 use Rattle.str_table.specs.declared.Probe.TheVariants.{Found, Vacant, Full}
@@ -23,6 +23,12 @@ probe hit slots (suc more) i =
 -- from the hash's own slot on, over the whole table
 unfoldable pub lookup : (ℕ → Bool) → List ℕ → ℕ → Probe
 lookup hit slots hash = probe hit slots (length slots) (home hash (length slots))
+
+-- the value that probing found
+abbrev pub found_value : Probe → Option ℕ
+found_value (Found v) = Some v
+found_value (Vacant i) = None
+found_value Full = None
 
 -- a test that no value passes: what is looked for is an empty slot
 unfoldable pub never : ℕ → Bool

@@ -1,12 +1,15 @@
 -- The hash, chunk by chunk. Assumes nothing.
 use mathlib.Core.Path.{◌≡◌, refl, sym, ap, ap₂, ◌∙◌}
 use mathlib.Core.List.{List, [], ◌∷◌}
-use Prim.Native.Nat.{ℕ, zero, suc, ◌+◌, ◌-◌, ◌≤◌, ◌<◌}
+use Prim.Native.Nat.{ℕ, zero, suc, ◌+◌, ◌-◌, ◌*◌, ◌/◌, ◌≤◌, ◌<◌}
 use native.Mathlib.Nat.{not-suc-le-zero, le_of_suc-le-suc, le_refl, le_trans}
 use native.Mathlib.Omega.{arith}
-use lib.ListN.{length, take, drop, length-drop}
-use lib.Seq.{take_all, drop-drop}
-use Rattle.memory.specs.Bytes.{value_of, number}
+use lib.ListN.{length, get_or, take, drop, length-drop}
+use lib.Seq.{take_all, drop-drop, length-take-le}
+use Rattle.std.specs.Int.{w64, from_le_bytes}
+use Rattle.std.specs.Simd.{first_chunks}
+use Rattle.memory.specs.Bytes.{value_of}
+use Rattle.memory.proofs.Bytes.{from_le_bytes-value}
 use Rattle.string.specs.Hash.{mixed, folded, chunks, hash_of}
 
 rest_le : (b : ℕ) (bs : List ℕ) → length (drop 8 (b ∷ bs)) ≤ length bs
@@ -55,27 +58,48 @@ pub record Hashing (bytes : List ℕ) (h at : ℕ) : Type 0 where
   pub within : at ≤ length bytes
   pub is : left h (drop at bytes) ≡ left (length bytes) bytes
 
+-- a whole chunk, by its place among the chunks
+chunk_at : (k n : ℕ) (xs d : List ℕ) → k < n → get_or (first_chunks 8 n xs) k d ≡ take 8 (drop (k * 8) xs)
+chunk_at k zero xs d h = absurd (omega arith)
+chunk_at zero (suc n) xs d h = refl
+chunk_at (suc k) (suc n) xs d h =
+    let e : 8 + k * 8 ≡ suc k * 8 = omega arith in
+    chunk_at k n (drop 8 xs) d (omega arith) ∙ ap (take 8) (drop-drop (k * 8) 8 xs ∙ ap (λ (i : ℕ). drop i xs) e)
+
 module _ (bytes : List ℕ) where
-  pub hash_start : Hashing bytes (length bytes) 0
+  pub hash_start : Hashing bytes (length bytes) (0 * 8)
   hash_start = record { within = omega arith; is = refl }
 
-  module _ (h at : ℕ) (g : Hashing bytes h at) where
-    pub hash_whole : (w r : ℕ) → 8 ≤ length bytes - at → w ≡ number 8 at bytes → r ≡ mixed h w → Hashing bytes r (at + 8)
-    hash_whole w r l p q =
-        let k : 0 < length (drop at bytes) = rw length-drop (omega arith) in
-        record {
-          within = omega arith;
-          is = ap₂ left (q ∙ ap (mixed h) p) (sym (drop-drop 8 at bytes)) ∙ sym (turn h (drop at bytes) k) ∙ g.is;
-        }
+  -- the whole chunks, and what is behind them
+  module _ (chunks : List (List ℕ)) (fronts : chunks ≡ first_chunks 8 (length bytes / 8) bytes) (many : length chunks ≡ length bytes / 8)
+      (h k : ℕ) (g : Hashing bytes h (k * 8)) where
+    pub hash_whole : (d : List ℕ) (w r : ℕ) → k < length chunks → w ≡ from_le_bytes w64 (get_or chunks k d) → r ≡ mixed h w
+        → Hashing bytes r ((k + 1) * 8)
+    hash_whole d w r l p q =
+        let at = k * 8 in
+        let room : at + 8 ≤ length bytes = omega arith in
+        let some : 0 < length (drop at bytes) = rw length-drop (omega arith) in
+        let chunk : get_or chunks k d ≡ take 8 (drop at bytes) = ap (λ cs. get_or cs k d) fronts ∙ chunk_at k (length bytes / 8) bytes d (omega arith) in
+        let long : length (take 8 (drop at bytes)) ≡ 8 = length-take-le 8 (drop at bytes) (rw length-drop (omega arith)) in
+        let word : w ≡ value_of (take 8 (drop at bytes)) = p ∙ ap (from_le_bytes w64) chunk ∙ from_le_bytes-value (take 8 (drop at bytes)) long in
+        let next : at + 8 ≡ (k + 1) * 8 = omega arith in
+        rw (← next) (record {
+          within = room;
+          is = ap₂ left (q ∙ ap (mixed h) word) (sym (drop-drop 8 at bytes)) ∙ sym (turn h (drop at bytes) some) ∙ g.is;
+        })
 
-    pub hash_last : (w x r : ℕ) → at < length bytes → length bytes - at < 8 → w ≡ value_of (take (length bytes - at) (drop at bytes))
-        → x ≡ mixed h w → r ≡ folded x → r ≡ hash_of bytes
-    unfolding hash_of left
-    hash_last w x r l k p q e =
-        let n : length (drop at bytes) ≡ length bytes - at = length-drop at bytes in
-        let t : take (length bytes - at) (drop at bytes) ≡ drop at bytes = take_all (length bytes - at) (drop at bytes) (omega arith) in
-        e ∙ ap folded (q ∙ ap (mixed h) (p ∙ ap value_of t) ∙ sym (one_chunk h (drop at bytes) (omega arith) (omega arith)) ∙ g.is)
+    module _ (tail : List ℕ) (back : tail ≡ drop (length bytes / 8 * 8) bytes) (l : length chunks ≤ k) where
+      at_end : drop (k * 8) bytes ≡ tail
+      at_end =
+          let within = g.within in
+          let e : k ≡ length bytes / 8 = omega arith in
+          ap (λ (i : ℕ). drop (i * 8) bytes) e ∙ sym back
 
-    pub hash_end : (r : ℕ) → length bytes ≤ at → r ≡ folded h → r ≡ hash_of bytes
-    unfolding hash_of left
-    hash_end r l e = e ∙ ap folded (sym (none_left h (drop at bytes) (rw length-drop (omega arith))) ∙ g.is)
+      pub hash_last : (w x r : ℕ) → (length tail ≡ 0 → ⊥) → length tail ≤ 8 → w ≡ value_of tail → x ≡ mixed h w → r ≡ folded x → r ≡ hash_of bytes
+      unfolding hash_of left
+      hash_last w x r some few p q e =
+          e ∙ ap folded (q ∙ ap (mixed h) p ∙ sym (one_chunk h tail (omega arith) few) ∙ ap (left h) (sym at_end) ∙ g.is)
+
+      pub hash_end : (r : ℕ) → length tail ≡ 0 → r ≡ folded h → r ≡ hash_of bytes
+      unfolding hash_of left
+      hash_end r none e = e ∙ ap folded (sym (none_left h tail (omega arith)) ∙ ap (left h) (sym at_end) ∙ g.is)

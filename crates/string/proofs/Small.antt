@@ -1,14 +1,17 @@
 -- At most 8 bytes as one word. Assumes nothing.
 use mathlib.Core.Path.{◌≡◌, refl, sym, ap, ap₂, ◌∙◌}
 use mathlib.Core.List.{List, [], ◌∷◌}
-use Prim.Native.Nat.{ℕ, zero, suc, ◌+◌, ◌-◌, ◌*◌, ◌/◌, ◌%◌, ◌^◌, ◌≤◌, ◌<◌}
+use Prim.Native.Nat.{ℕ, zero, suc, ◌+◌, ◌*◌, ◌/◌, ◌%◌, ◌^◌, ◌≤◌, ◌<◌}
 use native.Mathlib.Nat.{not-suc-le-zero, le_of_suc-le-suc}
 use native.Mathlib.Omega.{arith}
-use lib.ListN.{length, get_or, take}
+use lib.ListN.{length, take}
 use lib.Seq.{take-length}
 use lib.Bits.{bit_or, or_shifted}
 use Rattle.memory.specs.Bytes.{bytes_of, value_of, number}
-use Rattle.memory.proofs.Bytes.{number-add, number-one, length-bytes_of, value-bytes_of}
+use Rattle.memory.proofs.Bytes.{Bytes, bytes_take, bytes-bytes_of, take-to_le_bytes, length-bytes_of, value-bytes_of, value_same}
+use Rattle.std.specs.Int.{w64, to_le_bytes}
+use lib.Dec.{eqb}
+use Rattle.memory.specs.Lists.{same}
 use Rattle.string.specs.Hash.{rotated, mixed, folded, chunks, hash_of, small_hash_of}
 use Rattle.string.specs.Payload.{small_name}
 use Rattle.string.proofs.Chunks.{left, one_chunk}
@@ -23,16 +26,6 @@ rotates x h = ap (λ (y : ℕ). bit_or y (x / 2 ^ 59)) (moved x) ∙ or_shifted 
 -- a whole list as a number of its length
 pub whole : (n : ℕ) (xs : List ℕ) → length xs ≡ n → number n 0 xs ≡ value_of xs
 whole n xs e = ap (λ (k : ℕ). value_of (take k xs)) (sym e) ∙ ap value_of (take-length xs)
-
--- 3 bytes are 2 and 1
-pub three : (xs : List ℕ) → length xs ≡ 3 → number 2 0 xs + get_or xs 2 0 * 65536 ≡ value_of xs
-three xs e = omega (arith, sym (whole 3 xs e), number-add 2 1 0 xs (omega arith), number-one 2 xs (omega arith))
-
--- 4 to 7 bytes are 4 and the rest
-pub four_and : (xs : List ℕ) → 4 ≤ length xs → number 4 0 xs + number (length xs - 4) 4 xs * 4294967296 ≡ value_of xs
-four_and xs h =
-    let n : 4 + (length xs - 4) ≡ length xs = omega arith in
-    omega (arith, sym (whole (length xs) xs refl), ap (λ (k : ℕ). number k 0 xs) (sym n), number-add 4 (length xs - 4) 0 xs (omega arith))
 
 -- ---- the name of a small word
 
@@ -62,3 +55,14 @@ pub small_hash_is : (len word : ℕ) → len ≤ 8 → word < 256 ^ len → smal
 small_hash_is len word h k =
     ap₂ small_hash_of (sym (small_length len word h)) (sym (small_value len word h k))
     ∙ small_agrees (small_name len word) (rw (small_length len word h) h)
+
+-- the bytes of a word, as the number type gives them
+pub small_taken : (len word : ℕ) → len ≤ 8 → take len (to_le_bytes w64 word) ≡ small_name len word
+small_taken len word h = take-to_le_bytes len word h ∙ sym (small_name_lem len 8 word h)
+
+-- bytes are those of a word if their number is the word
+pub small_same : (len word : ℕ) → len ≤ 8 → word < 256 ^ len → (s : List ℕ) → Bytes s → length s ≡ length (small_name len word) → (x : ℕ)
+    → x ≡ value_of s → eqb x word ≡ same s (small_name len word)
+small_same len word few pad s bs l x q =
+    let named : Bytes (small_name len word) = bytes_take len (bytes_of 8 word) (bytes-bytes_of 8 word) in
+    ap₂ eqb q (sym (small_value len word few pad)) ∙ value_same s (small_name len word) bs named l

@@ -1,9 +1,7 @@
 -- A string in the heap: its header, its bytes, and what it is compared with. Definitions only.
-use Rattle.std.specs.Prelude.{Bool, true, false, ◌&&◌, List, ◌++◌, ℕ, ◌+◌, ◌-◌, length, take, leb, eqb}
+use Rattle.std.specs.Prelude.{Bool, ◌&&◌, List, ◌++◌, ℕ, ◌+◌, ◌-◌, ◌^◌, length, take, leb, ltb, eqb}
 use Rattle.memory.specs.Bytes.{bytes_of, number}
 use Rattle.memory.specs.Lists.{same, part}
-use Rattle.string.specs.declared.payload.Payload.{Payload}
-use Rattle.string.specs.declared.payload.Payload.TheVariants.{At, Other}
 
 -- 'header 8 bytes: length then hash, 32 bits each, little-endian'; then the bytes
 unfoldable pub payload_of : List ℕ → ℕ → List ℕ
@@ -31,11 +29,6 @@ bytes_at base heap v len = part (v - base + 8) len heap
 unfoldable pub headed : ℕ → List ℕ → ℕ → ℕ → ℕ → Bool
 headed base heap len hash v = reaches base (length heap) v (payload_size len) && (eqb (length_at base heap v) len && eqb (hash_at base heap v) hash)
 
--- where its bytes start
-unfoldable pub bytes_from : Bool → ℕ → Payload
-bytes_from true a = At a
-bytes_from false a = Other
-
 -- 'whole length, hash and bytes equal'
 unfoldable pub holds : ℕ → List ℕ → List ℕ → ℕ → ℕ → Bool
 holds base heap s hash v = headed base heap (length s) hash v && same (bytes_at base heap v (length s)) s
@@ -43,3 +36,7 @@ holds base heap s hash v = headed base heap (length s) hash v && same (bytes_at 
 -- the name that a small word stands for: its lowest bytes, '`small_word` of 0 to 8 bytes is their little-endian value'
 abbrev pub small_name : ℕ → ℕ → List ℕ
 small_name len word = take len (bytes_of 8 word)
+
+-- 17: 'small string over 8 bytes, or non-zero padding'
+unfoldable pub small_ok : ℕ → ℕ → Bool
+small_ok n w = leb n 8 && ltb w (256 ^ n)

@@ -2,6 +2,7 @@
 #![tactic(auto)]
 
 pub mod fxhash;
+pub mod name;
 pub mod payload;
 
 // A payload's alignment: keys of a table over strings lie so far apart.

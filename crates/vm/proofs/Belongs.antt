@@ -9,8 +9,7 @@ use lib.ListN.{length, length-append, length-replicate}
 use borrow.Author.Tests.{lt-ltb, le-leb}
 use Rattle.memory.specs.Lists.{write}
 use Rattle.memory.proofs.Over.{length-write}
-use Rattle.str_table.specs.declared.Probe.{Probe}
-use Rattle.str_table.specs.declared.Probe.TheVariants.{Found, Vacant, Full}
+use Rattle.std.specs.Prelude as std
 use Rattle.string.specs.Hash.{hash_of}
 use Rattle.string.specs.Payload.{payload_of, payload_size, reaches}
 use Rattle.gc.specs.Pages.{Pages, Block, grow_of, block, pushed, fitted, allocated}
@@ -151,11 +150,10 @@ module _ (l : Memory) (h : Belongs l) where
             (rw length-write (header_reached _ (length s) (allocated-placed 3 size l.pages))) le;
       }
 
-  known-belongs : (s : List ℕ) (p : Probe) → length (Names.known s l p).memory.slots ≤ 4096 → Belongs (Names.known s l p).memory
+  known-belongs : (s : List ℕ) (p : std.Option ℕ) → length (Names.known s l p).memory.slots ≤ 4096 → Belongs (Names.known s l p).memory
   unfolding Names.known
-  known-belongs s (Found v) le = h
-  known-belongs s (Vacant i) le = fresh-belongs s le
-  known-belongs s Full le = fresh-belongs s le
+  known-belongs s (std.Some v) le = h
+  known-belongs s std.None le = fresh-belongs s le
 
   optional-belongs : (o : Option ℕ) → Belongs (Names.optional o l).memory
   unfolding Names.optional Names.boxed Names.filled set_pages

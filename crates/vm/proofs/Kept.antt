@@ -6,8 +6,7 @@ use mathlib.Core.Bool.{Bool, true, false}
 use mathlib.Core.Option.{Option, none, some}
 use mathlib.Core.List.{List}
 use Rattle.gc.specs.Pages.{Pages, block, pushed, fitted, allocated, holds}
-use Rattle.str_table.specs.declared.Probe.{Probe}
-use Rattle.str_table.specs.declared.Probe.TheVariants.{Found, Vacant, Full}
+use Rattle.std.specs.Prelude as std
 use Rattle.effects.specs.declared.Effect.{Effect}
 use Rattle.vm.specs.Core.{Core, Memory, Sizes, used, short, set_pages, set_bytes}
 use Rattle.program.specs.Image.{Image}
@@ -84,11 +83,10 @@ fresh-base : (s : List ℕ) (l : Memory) → (Names.fresh s l).memory.pages.base
 unfolding Names.fresh Names.tabled Names.filled set_pages set_bytes
 fresh-base s l = allocated-base _ 3 _ l.pages
 
-known-base : (s : List ℕ) (l : Memory) (p : Probe) → (Names.known s l p).memory.pages.base ≡ l.pages.base
+known-base : (s : List ℕ) (l : Memory) (p : std.Option ℕ) → (Names.known s l p).memory.pages.base ≡ l.pages.base
 unfolding Names.known
-known-base s l (Found v) = refl
-known-base s l (Vacant i) = fresh-base s l
-known-base s l Full = fresh-base s l
+known-base s l (std.Some v) = refl
+known-base s l std.None = fresh-base s l
 
 pub interned-base : (s : List ℕ) (l : Memory) → (Names.interned s l).memory.pages.base ≡ l.pages.base
 unfolding Names.interned

@@ -3,6 +3,7 @@ use Rattle.std.specs.Prelude.{ℕ, zero, suc, ◌+◌, ◌-◌, ◌*◌, ◌%◌
 use Rattle.std.proofs.Math.Option.{Option, none, some}
 use Rattle.memory.specs.Lists.{over}
 use Rattle.string.specs.Payload.{small_name}
+pub use Rattle.string.specs.Payload.{small_ok}
 use Rattle.str_table.specs.Grow.{spare_after}
 use Rattle.str_table.specs.Sound as Table
 use Rattle.gc.specs.Pages.{Pages}
@@ -275,10 +276,6 @@ pages_belong s l = Heap.sound_of s.gc (length l.heap)
 
 unfoldable pub names_belong : State → Lent → Bool
 names_belong s l = pages_belong s l && Table.sound_of s.gc.base s.gc.pushed s.strings l.slots
-
--- 17: 'small string over 8 bytes, or non-zero padding'
-unfoldable pub small_ok : ℕ → ℕ → Bool
-small_ok n w = leb n 8 && ltb w (256 ^ n)
 
 -- what a call finds of state and buffers: of 10, that frames, heap and slots have their sizes; of 9, that the frames in use belong to code of so
 -- many words, that the pages belong to the heap, and with them the names to the slots

@@ -1,13 +1,12 @@
 -- What a host allocates: blocks, options and names, on a memory without limits. Definitions only.
 use Rattle.std.specs.Prelude.{ℕ, ◌+◌, ◌-◌, List, ◌++◌, length}
 use Rattle.std.proofs.Math.Option.{Option, none, some}
+use Rattle.std.specs.Prelude as std
 use Rattle.memory.specs.Bytes.{bytes_of}
 use Rattle.memory.specs.Lists.{write}
-use Rattle.str_table.specs.declared.Probe.{Probe}
-use Rattle.str_table.specs.declared.Probe.TheVariants.{Found, Vacant, Full}
 use Rattle.string.specs.Hash.{hash_of}
 use Rattle.string.specs.Payload.{payload_of, payload_size, holds}
-use Rattle.str_table.specs.Table.{lookup, placed}
+use Rattle.str_table.specs.Table.{lookup, found_value, placed}
 use Rattle.str_table.specs.Grow.{room_of, with_room}
 use Rattle.gc.specs.Pages.{Pages, Block, allocated}
 use Rattle.gc.specs.Lent.{page_size}
@@ -58,10 +57,9 @@ fresh s l =
     tabled (hash_of s) g.value l.slots l.names g.memory.pages
 
 -- 'the value if found (whole length, hash and bytes equal)'
-unfoldable pub known : List ℕ → Memory → Probe → Given
-known s l (Found v) = record { value = v; memory = l }
-known s l (Vacant i) = fresh s l
-known s l Full = fresh s l
+unfoldable pub known : List ℕ → Memory → std.Option ℕ → Given
+known s l (std.Some v) = record { value = v; memory = l }
+known s l std.None = fresh s l
 
 unfoldable pub interned : List ℕ → Memory → Given
-interned s l = known s l (lookup (holds l.pages.base l.pages.bytes s (hash_of s)) l.slots (hash_of s))
+interned s l = known s l (found_value (lookup (holds l.pages.base l.pages.bytes s (hash_of s)) l.slots (hash_of s)))

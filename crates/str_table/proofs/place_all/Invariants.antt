@@ -1,11 +1,6 @@
--- The loops of `str_table::place_all`. Assumes nothing.
-use Prim.Native.Nat.{◌-◌}
-use lib.ListN.{length}
+-- The loop of `str_table::place_all`. Assumes nothing.
 use Rattle.str_table.proofs.Moves.{Moving}
 use Rattle.str_table.proofs.place_all.Given as goal
 
-abbrev pub invariant-loop-i : goal.invariant-loop-i
-invariant-loop-i l = Moving l.base l.heap l.old l.initial.slots l.i l.slots
-
-abbrev pub decreases-loop-i : goal.decreases-loop-i
-decreases-loop-i l = length l.old - l.i
+abbrev pub invariant-loop-v : goal.invariant-loop-v
+invariant-loop-v l = Moving l.heap.base l.heap.bytes.now l.old l.initial.slots l.v-index l.slots

@@ -17,12 +17,12 @@ slice_bounds-fill-end-2 c = sym (length-take-le _ _ (search rules))
 
 pub slice_bounds-place_all-end-2 : goal.slice_bounds-place_all-end-2
 slice_bounds-place_all-end-2 c =
-    spare-there c.args.base c.args.heap.now _ _ _ _ c.requires.0 c.requires.1 c.requires.2 _ _
+    spare-there c.args.heap.base c.args.heap.bytes.now _ _ _ _ c.requires.0 c.requires.1 c.requires.2 _ _
     c.copy.ensures (c.fill.ensures.after (λ y h. h))
 
 pub slice_bounds-place_all-end-4 : goal.slice_bounds-place_all-end-4
 slice_bounds-place_all-end-4 c =
-    front_there c.args.base c.args.heap.now _ _ _ _ c.requires.0 c.requires.1 c.requires.2 _ _
+    front_there c.args.heap.base c.args.heap.bytes.now _ _ _ _ c.requires.0 c.requires.1 c.requires.2 _ _
     c.copy.ensures (c.fill.ensures.after (λ y h. h))
 
 pub returns : goal.returns

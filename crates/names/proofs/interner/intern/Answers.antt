@@ -1,7 +1,6 @@
 -- `names::interner::intern` meets its contract. Assumes nothing.
-use mathlib.Core.Path.{◌≡◌, sym}
+use mathlib.Core.Path.{◌≡◌}
 use mathlib.Core.Option.{none}
-use lib.Seq.{length-take-le}
 use Rattle.program.specs.Image.{failing}
 use Rattle.vm.specs.declared.State.{State}
 use Rattle.vm.specs.Machine.{found, name_tests}
@@ -24,20 +23,8 @@ belongs : (c : In-Passed)
     c.args.spare.now
 belongs c = belong _ _ _ _ _ (fine c)
 
-pub slice_bounds-get-end : goal.slice_bounds-get-end
-slice_bounds-get-end c = (belongs (goal.at.slice_bounds-get-end c).In-Passed).pages.in_heap
-
-pub slice_bounds-get-end-in-Passed : goal.slice_bounds-get-end-in-Passed
-slice_bounds-get-end-in-Passed c = sym (length-take-le _ _ (belongs (goal.at.slice_bounds-get-end-in-Passed c).In-Passed).pages.in_heap)
-
-pub slice_bounds-get-end-in-Passed-2 : goal.slice_bounds-get-end-in-Passed-2
-slice_bounds-get-end-in-Passed-2 c = (belongs (goal.at.slice_bounds-get-end-in-Passed-2 c).In-Passed).active
-
-pub slice_bounds-get-end-in-Passed-3 : goal.slice_bounds-get-end-in-Passed-3
-slice_bounds-get-end-in-Passed-3 c = sym (length-take-le _ _ (belongs (goal.at.slice_bounds-get-end-in-Passed-3 c).In-Passed).active)
-
 pub known-requires : goal.known-requires
-known-requires c = (belongs (goal.at.known-requires c).In-Passed, c.hash-hash.ensures)
+known-requires c = belongs (goal.at.known-requires c).In-Passed
 
 pub returns-in-Failed : goal.returns-in-Failed
 unfolding said_of
@@ -49,4 +36,4 @@ returns-in-Failed c =
 pub returns-in-Passed : goal.returns-in-Passed
 returns-in-Passed c =
     λ rest l. intern-told (holding rest c.args.gc c.args.strings) (lend_names _ _ _ l) _ (fine (goal.at.returns-in-Passed c).In-Passed rest l) _
-    c.hash-hash.ensures _ _ (c.known.ensures rest l) c.get-found.ensures
+    (c.known.ensures rest l)

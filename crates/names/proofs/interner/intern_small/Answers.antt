@@ -1,19 +1,17 @@
 -- `names::interner::intern_small` meets its contract. Assumes nothing.
-use mathlib.Core.Path.{◌≡◌, refl, sym, ◌∙◌}
-use mathlib.Core.Bool.{true}
+use mathlib.Core.Path.{◌≡◌, refl, sym}
+use mathlib.Core.Bool.{Bool, true, false}
 use mathlib.Core.Option.{none}
-use lib.Seq.{length-take-le}
 use Rattle.program.specs.Image.{failing}
 use Rattle.vm.specs.declared.State.{State}
-use Rattle.vm.specs.Machine.{found, name_tests, small_ok}
+use Rattle.vm.specs.Machine.{found, name_tests}
 use Rattle.vm.specs.Machine.{Lent, lend_names}
 use Rattle.vm.specs.Told.{said_of, holding}
 use Rattle.names.specs.Interned.{Belong, tested_of}
-use Rattle.names.proofs.SmallOk.{small_says}
 use Rattle.names.proofs.Tests.{belong}
-use Rattle.names.proofs.Interning.{small_refused, small_17, small_room, small_bytes, small_hashed, small_told}
+use Rattle.names.proofs.Interning.{small_refused, small_17, small_told}
 use Rattle.names.proofs.interner.intern_small.Goals as goal
-use Rattle.names.proofs.interner.intern_small.Goals.{Else-not-small_ok, In-Passed}
+use Rattle.names.proofs.interner.intern_small.Goals.{In-Passed}
 
 fine : (c : In-Passed) (rest : State) (l : Lent)
     → none ≡ failing (name_tests (found (holding rest c.args.gc c.args.strings)
@@ -26,42 +24,12 @@ belongs : (c : In-Passed)
     c.args.spare.now
 belongs c = belong _ _ _ _ _ (fine c)
 
--- and 17
-small : (c : Else-not-small_ok) → small_ok c.args.len c.args.word ≡ true
-small c = sym c.small_ok.ensures ∙ c.if-not-small_ok.false
-
-pub returns-then-not-small_ok : goal.returns-then-not-small_ok
-unfolding said_of
-returns-then-not-small_ok c =
-    λ rest l. rw c.refused-then-not-small_ok.ensures
-    (small_17 (holding rest c.args.gc c.args.strings) (lend_names _ _ _ l) _ _ (fine (goal.at.returns-then-not-small_ok c).In-Passed rest l)
-    (sym c.small_ok.ensures ∙ c.if-not-small_ok.true))
-
-pub slice_bounds-get_small-end : goal.slice_bounds-get_small-end
-slice_bounds-get_small-end c = (belongs (goal.at.slice_bounds-get_small-end c).In-Passed).pages.in_heap
-
-pub slice_bounds-get_small-end-in-Passed : goal.slice_bounds-get_small-end-in-Passed
-slice_bounds-get_small-end-in-Passed c = sym (length-take-le _ _ (belongs (goal.at.slice_bounds-get_small-end-in-Passed c).In-Passed).pages.in_heap)
-
-pub slice_bounds-get_small-end-in-Passed-2 : goal.slice_bounds-get_small-end-in-Passed-2
-slice_bounds-get_small-end-in-Passed-2 c = (belongs (goal.at.slice_bounds-get_small-end-in-Passed-2 c).In-Passed).active
-
-pub slice_bounds-get_small-end-in-Passed-3 : goal.slice_bounds-get_small-end-in-Passed-3
-slice_bounds-get_small-end-in-Passed-3 c = sym (length-take-le _ _ (belongs (goal.at.slice_bounds-get_small-end-in-Passed-3 c).In-Passed).active)
-
-pub get_small-found-requires : goal.get_small-found-requires
-get_small-found-requires c = small_says _ _ (small (goal.at.get_small-found-requires c).Else-not-small_ok)
-
-pub slice_bounds-bytes-end : goal.slice_bounds-bytes-end
-slice_bounds-bytes-end c = small_room _ _ (small (goal.at.slice_bounds-bytes-end c).Else-not-small_ok) _ _ refl c.store.ensures
-
-pub slice_bounds-known-end : goal.slice_bounds-known-end
-slice_bounds-known-end c =
-    sym (length-take-le _ _ (small_room _ _ (small (goal.at.slice_bounds-known-end c).Else-not-small_ok) _ _ refl c.store.ensures))
+not_small : (b : Bool) → (b ≡ true → false ≡ true) → b ≡ false
+not_small true h = sym (h refl)
+not_small false h = refl
 
 pub known-requires : goal.known-requires
-known-requires c =
-    (belongs (goal.at.known-requires c).In-Passed, small_hashed _ _ (small (goal.at.known-requires c).Else-not-small_ok) _ _ refl c.store.ensures _ c.small_hash-hash.ensures)
+known-requires c = belongs (goal.at.known-requires c).In-Passed
 
 pub returns-in-Failed : goal.returns-in-Failed
 unfolding said_of
@@ -70,8 +38,14 @@ returns-in-Failed c =
     (small_refused (holding rest c.args.gc c.args.strings) (lend_names _ _ _ l) _ _ _
     (rw c.in-Failed.is at (c.check.ensures rest l)))
 
-pub returns-else-not-small_ok : goal.returns-else-not-small_ok
-returns-else-not-small_ok c =
-    λ rest l. small_told (holding rest c.args.gc c.args.strings) (lend_names _ _ _ l) _ _ (fine (goal.at.returns-else-not-small_ok c).In-Passed rest l)
-    (small (goal.at.returns-else-not-small_ok c).Else-not-small_ok) _ c.small_hash-hash.ensures _ (small_bytes _ _ (small (goal.at.returns-else-not-small_ok c).Else-not-small_ok) _ _ refl c.store.ensures) _ _
-    (c.known.ensures rest l) c.get_small-found.ensures
+pub returns-in-None : goal.returns-in-None
+unfolding said_of
+returns-in-None c =
+    λ rest l. rw c.refused-in-None.ensures
+    (small_17 (holding rest c.args.gc c.args.strings) (lend_names _ _ _ l) _ _ (fine (goal.at.returns-in-None c).In-Passed rest l)
+    (not_small _ c.in-None.ensures.small.1))
+
+pub returns-in-Some : goal.returns-in-Some
+returns-in-Some c =
+    λ rest l. small_told (holding rest c.args.gc c.args.strings) (lend_names _ _ _ l) _ _ (fine (goal.at.returns-in-Some c).In-Passed rest l)
+    (c.in-Some.ensures.small.0 refl) _ _ c.in-Some.ensures.parts.0 c.in-Some.ensures.parts.1 _ (c.known.ensures rest l)

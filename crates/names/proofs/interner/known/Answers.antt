@@ -1,15 +1,12 @@
 -- `names::interner::known` meets its contract. Assumes nothing.
-use Rattle.vm.specs.Names.{known}
 use Rattle.vm.specs.Machine.{lend_names}
 use Rattle.vm.specs.Told.{said_of, holding}
-use Rattle.names.proofs.Interning.{found-done, new_name}
+use Rattle.names.proofs.Interning.{told_found, told_fresh}
 use Rattle.names.proofs.interner.known.Goals as goal
 
-pub returns-in-Found : goal.returns-in-Found
-unfolding known said_of
-returns-in-Found c =
-    λ rest l. rw c.in-Found.is
-    (found-done (holding rest c.args.gc c.args.strings) (lend_names _ _ _ l) c.args.s.now c.requires.0 _)
+pub returns-in-Some : goal.returns-in-Some
+unfolding said_of
+returns-in-Some g c = λ rest l. told_found (holding rest c.args.gc c.args.strings) (lend_names _ _ _ l) _ c.requires _ c.hash-hash.ensures _ c.get.ensures _ c.in-Some.is
 
-pub returns-in-Vacant : goal.returns-in-Vacant
-returns-in-Vacant c = λ rest l. rw (new_name c.args.s.now _ c.args.found c.in-Vacant.is) (c.fresh.ensures rest l)
+pub returns-in-None : goal.returns-in-None
+returns-in-None g c = λ rest l. told_fresh (holding rest c.args.gc c.args.strings) (lend_names _ _ _ l) _ c.requires _ c.hash-hash.ensures _ c.get.ensures c.in-None.is _ (c.fresh.ensures rest l)

@@ -1,17 +1,25 @@
 -- `string::fxhash::hash` meets its contract. Assumes nothing.
-use Rattle.string.proofs.Chunks.{hash_start, hash_whole, hash_last, hash_end}
+use mathlib.Core.Path.{ap, sym, ◌∙◌}
+use native.Mathlib.Omega.{arith}
+use borrow.Author.Tests.{eqb-true, eqb-false}
+use Rattle.string.specs.Hash.{folded}
+use Rattle.string.proofs.Chunks.{hash_whole, hash_last, hash_end}
 use Rattle.string.proofs.fxhash.hash.Goals as goal
+use Rattle.string.proofs.fxhash.hash.Goals.{then-not-is_empty, else-not-is_empty}
 
-pub loop-at-init : goal.loop-at-init
-loop-at-init c = hash_start _
-
-pub loop-at-preserved : goal.loop-at-preserved
-loop-at-preserved c = hash_whole _ _ _ c.loop-at.invariant _ _ c.loop-at-test.true c.load.ensures.value c.mix-h.ensures
-
-pub returns-then-at-n : goal.returns-then-at-n
-returns-then-at-n c =
-    hash_last _ _ _ c.loop-at.invariant _ _ _ c.if-at-n.true c.loop-at-test.false c.small_word.ensures
-    c.mix.ensures c.fold.ensures
+pub loop-chunk-preserved : goal.loop-chunk-preserved
+loop-chunk-preserved c =
+    let parts = c.as_chunks.ensures in
+    hash_whole _ _ parts.front parts.front_len _ _ c.loop-chunk.invariant _ _ _ c.loop-chunk-test.true c.from_le_bytes.ensures c.mix-h.ensures
 
 pub returns : goal.returns
-returns c = hash_end _ _ _ c.loop-at.invariant _ c.if-at-n.false c.fold-2.ensures
+returns c =
+    let parts = c.as_chunks.ensures in
+    elim c.if-not-is_empty.branch [
+      | then-not-is_empty w ↦ hash_last _ _ parts.front parts.front_len _ _ c.loop-chunk.invariant _ parts.back c.loop-chunk-test.false _ _ _
+          (eqb-false _ _ (sym c.is_empty.ensures ∙ w.if-not-is_empty.true)) (omega (arith, parts.back_len))
+          w.small_word.ensures w.mix-h-then-not-is_empty.ensures (c.fold.ensures ∙ ap folded w.h-is)
+      | else-not-is_empty w ↦ hash_end _ _ parts.front parts.front_len _ _ c.loop-chunk.invariant _ parts.back c.loop-chunk-test.false _
+          (eqb-true _ _ (sym c.is_empty.ensures ∙ w.if-not-is_empty.false))
+          (c.fold.ensures ∙ ap folded w.h-is)
+    ]

@@ -4,6 +4,6 @@ use Rattle.string.proofs.Strings.{payload_written}
 use Rattle.string.proofs.payload.write_payload.Goals as goal
 
 pub returns : goal.returns
-returns c =
-    payload_written c.args.s.now c.args.to.now _ _ _ c.args.hash (omega (arith, c.requires))
-    c.store.ensures c.store-2.ensures c.copy.ensures
+returns g c =
+    payload_written (g.N.Name.bytes c.args.name) c.args.to.now _ _ _ c.args.hash _ _ (omega (arith, c.requires)) c.len.ensures.0 c.from.ensures
+    c.store.ensures c.store-2.ensures c.write.ensures

@@ -9,7 +9,7 @@ use lib.Dec.{leb, ltb, eqb}
 use lib.Pow.{pow-add, pow_pos}
 use borrow.Author.Tests.{leb-true, le-leb, lt-leb, ltb-true, ltb-false, lt-ltb, eqb-true, eqb-false, eq-eqb, ne_eqb}
 use Rattle.memory.proofs.Tests.{both}
-use Rattle.vm.specs.Machine.{small_ok}
+use Rattle.string.specs.Payload.{small_ok}
 
 byte_power : (n : ℕ) → 2 ^ (n * 8) ≡ 256 ^ n
 byte_power zero = refl
