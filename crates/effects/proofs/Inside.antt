@@ -5,8 +5,10 @@ use Rattle.anomaly.specs.declared.Refusal.{Refusal}
 use Rattle.anomaly.specs.declared.Refusal.TheVariants.{Operand}
 use Rattle.memory.proofs.Tests.{both}
 use Rattle.anomaly.specs.Table.{is_anomaly}
-use Rattle.value.specs.declared.int.Divided.{Divided}
-use Rattle.value.specs.declared.int.Divided.TheVariants.{Exact, ByZero, Overflow}
+use Rattle.std.proofs.Common as std
+use Rattle.std.proofs.Common.{Result}
+use Rattle.value.specs.declared.int.DivisionError.{DivisionError}
+use Rattle.value.specs.declared.int.DivisionError.TheVariants.{ByZero, Overflow}
 use Rattle.value.specs.Cast.{truth}
 use Rattle.op.specs.declared.Op.{Op}
 use Rattle.op.specs.declared.Op.TheVariants.{Halt}
@@ -43,11 +45,11 @@ jump_ok : (n : ℕ) (b : Bool) (target : ℕ) → target < n → EffectOk n (jum
 unfolding jump_if
 jump_ok n b target h = either n b _ _ (λ e. h) (λ e. tt)
 
-divided_ok : (n dst : ℕ) (d : Divided) → dst < 32 → EffectOk n (divided dst d)
+divided_ok : (n dst : ℕ) (d : Result ℕ DivisionError) → dst < 32 → EffectOk n (divided dst d)
 unfolding divided
-divided_ok n dst (Exact v) o = o
-divided_ok n dst ByZero o = refl
-divided_ok n dst Overflow o = refl
+divided_ok n dst (std.Ok v) o = o
+divided_ok n dst (std.Err ByZero) o = refl
+divided_ok n dst (std.Err Overflow) o = refl
 
 -- a read at a place that is there
 within_ok : (n i k : ℕ) (e : Effect) → i < k → EffectOk n e → EffectOk n (within i k e)

@@ -2,8 +2,8 @@
 use Rattle.std.specs.Prelude.{ℕ, ◌+◌, ◌-◌, ◌*◌, ◌/◌, ◌%◌, ◌^◌, Bool, cond, not, List, length, ◌==◌, bit_and, int_lt, nat_lt, slice_index, slice_index_or, Result, Ok, Err}
 use Rattle.std.specs.Bool.{beq}
 use Rattle.std.specs.Float.Ieee as Ieee
-use Rattle.value.specs.declared.int.Divided.{Divided}
-use Rattle.value.specs.declared.int.Divided.TheVariants.{Exact, ByZero, Overflow}
+use Rattle.value.specs.declared.int.DivisionError.{DivisionError}
+use Rattle.value.specs.declared.int.DivisionError.TheVariants.{ByZero, Overflow}
 use Rattle.value.specs.Int.{signed, quotient_of, remainder_of}
 use Rattle.value.specs.Double.{double, on}
 use Rattle.value.specs.Cast.{truth, bit, cast_to_int, cast_to_double, cast_to_bool}
@@ -34,10 +34,13 @@ abbrev pub less_double : ℕ → ℕ → ℕ
 less_double x y = bit (Ieee.lt (double x) (double y))
 
 -- 1 for a zero divisor, 7 for the one overflow
-unfoldable pub divided : ℕ → Divided → Effect
-divided dst (Exact v) = effect.Set dst v
-divided dst ByZero = effect.Stop 1
-divided dst Overflow = effect.Stop 7
+abbrev pub number_of_division : DivisionError → ℕ
+number_of_division ByZero = 1
+number_of_division Overflow = 7
+
+unfoldable pub divided : ℕ → Result ℕ DivisionError → Effect
+divided dst (Ok v) = effect.Set dst v
+divided dst (Err why) = effect.Stop (number_of_division why)
 
 unfoldable pub jump_if : Bool → ℕ → Effect
 jump_if b target = cond b (effect.Goto target) effect.Skip

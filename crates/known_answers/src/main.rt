@@ -6,7 +6,7 @@ use std::io;
 use str_table::StrTable;
 use string::fxhash::{hash, small_hash};
 use string::payload::{Pushed, write_payload};
-use value::int::Divided;
+use value::int::DivisionError;
 use value::{Value, double, int};
 
 fn lines(rt: &impl Print, rows: &[(&str, u64)]) -> io::Result<()> {
@@ -31,16 +31,16 @@ fn hashes(rt: &impl Print) -> io::Result<()> {
 }
 
 // The pattern of a result; 1 and 7 are the ends of a division that has none.
-fn shown(d: Divided) -> u64 {
+fn shown(d: Result<u64, DivisionError>) -> u64 {
     match d {
-        Divided::Exact(p) => p,
-        Divided::ByZero => 1,
-        Divided::Overflow => 7,
+        Ok(p) => p,
+        Err(DivisionError::ByZero) => 1,
+        Err(DivisionError::Overflow) => 7,
     }
 }
 
 fn divisions(rt: &impl Print) -> io::Result<()> {
-    let minus_seven = Value::from_int(-7).0;
+    let minus_seven = Value::from(-7_i64).0;
     let least = 0x8000_0000_0000_0000;
     lines(
         rt,

@@ -6,13 +6,13 @@ ghost use Rattle.std.specs.Prelude.{◌≡◌, ◌<◌, if◌then◌else◌, sli
 ghost use Rattle.op.specs.Operands.{Instruction};
 ghost use Rattle.op.specs.Decode.{decode_of};
 ghost use Rattle.program.specs.Words.{cut, Readable};
-ghost use Rattle.effects.specs.Effect.{divided, jump_if, effect_of, word_effect};
+ghost use Rattle.effects.specs.Effect.{divided, number_of_division, jump_if, effect_of, word_effect};
 ghost use Rattle.effects.specs.declared.Effect.{Effect};
 
 use anomaly::Anomaly;
 use effects::{Effect, tables};
 use op::Op;
-use value::int::Divided;
+use value::int::DivisionError;
 use value::{Value, double, int};
 
 fn reg(regs: &[u64; 32], i: usize) -> u64
@@ -22,13 +22,22 @@ fn reg(regs: &[u64; 32], i: usize) -> u64
     regs[i]
 }
 
-fn divided(dst: usize, d: Divided) -> Effect
+// The end of a division that has no result.
+fn number_of_division(why: DivisionError) -> u64
+    ensures { result ≡ number_of_division why }
+{
+    match why {
+        DivisionError::ByZero => Anomaly::DIVISION_BY_ZERO,
+        DivisionError::Overflow => Anomaly::QUOTIENT_OVERFLOW,
+    }
+}
+
+fn divided(dst: usize, d: Result<u64, DivisionError>) -> Effect
     ensures { result ≡ divided dst d }
 {
     match d {
-        Divided::Exact(v) => Effect::Set(dst, v),
-        Divided::ByZero => Effect::Stop(Anomaly::DIVISION_BY_ZERO),
-        Divided::Overflow => Effect::Stop(Anomaly::QUOTIENT_OVERFLOW),
+        Ok(v) => Effect::Set(dst, v),
+        Err(why) => Effect::Stop(number_of_division(why)),
     }
 }
 
@@ -86,44 +95,38 @@ fn effect_of(op: Op, regs: &[u64; 32], image: &[u64]) -> Effect
         Op::IAndI { dst, lhs, imm } => Effect::Set(dst, int::and(reg(regs, lhs), imm)),
         Op::ILt { dst, lhs, rhs } => Effect::Set(
             dst,
-            Value::from_bool(int::lt(reg(regs, lhs), reg(regs, rhs))).0,
+            Value::from(int::lt(reg(regs, lhs), reg(regs, rhs))).0,
         ),
         Op::IGt { dst, lhs, rhs } => Effect::Set(
             dst,
-            Value::from_bool(int::gt(reg(regs, lhs), reg(regs, rhs))).0,
+            Value::from(int::gt(reg(regs, lhs), reg(regs, rhs))).0,
         ),
         Op::IEq { dst, lhs, rhs } => Effect::Set(
             dst,
-            Value::from_bool(reg(regs, lhs) == reg(regs, rhs)).0,
+            Value::from(reg(regs, lhs) == reg(regs, rhs)).0,
         ),
-        Op::IEqI { dst, lhs, imm } => Effect::Set(dst, Value::from_bool(reg(regs, lhs) == imm).0),
-        Op::IGtI { dst, lhs, imm } => Effect::Set(
-            dst,
-            Value::from_bool(int::gt(reg(regs, lhs), imm)).0,
-        ),
-        Op::ILtI { dst, lhs, imm } => Effect::Set(
-            dst,
-            Value::from_bool(int::lt(reg(regs, lhs), imm)).0,
-        ),
+        Op::IEqI { dst, lhs, imm } => Effect::Set(dst, Value::from(reg(regs, lhs) == imm).0),
+        Op::IGtI { dst, lhs, imm } => Effect::Set(dst, Value::from(int::gt(reg(regs, lhs), imm)).0),
+        Op::ILtI { dst, lhs, imm } => Effect::Set(dst, Value::from(int::lt(reg(regs, lhs), imm)).0),
         Op::DAdd { dst, lhs, rhs } => Effect::Set(dst, double::add(reg(regs, lhs), reg(regs, rhs))),
         Op::DSub { dst, lhs, rhs } => Effect::Set(dst, double::sub(reg(regs, lhs), reg(regs, rhs))),
         Op::DMul { dst, lhs, rhs } => Effect::Set(dst, double::mul(reg(regs, lhs), reg(regs, rhs))),
         Op::DDiv { dst, lhs, rhs } => Effect::Set(dst, double::div(reg(regs, lhs), reg(regs, rhs))),
         Op::DLt { dst, lhs, rhs } => Effect::Set(
             dst,
-            Value::from_bool(double::lt(reg(regs, lhs), reg(regs, rhs))).0,
+            Value::from(double::lt(reg(regs, lhs), reg(regs, rhs))).0,
         ),
         Op::DGt { dst, lhs, rhs } => Effect::Set(
             dst,
-            Value::from_bool(double::gt(reg(regs, lhs), reg(regs, rhs))).0,
+            Value::from(double::gt(reg(regs, lhs), reg(regs, rhs))).0,
         ),
         Op::BEq { dst, lhs, rhs } => Effect::Set(
             dst,
-            Value::from_bool(Value(reg(regs, lhs)).bool_eq(Value(reg(regs, rhs)))).0,
+            Value::from(Value(reg(regs, lhs)).bool_eq(Value(reg(regs, rhs)))).0,
         ),
         Op::SEq { dst, lhs, rhs } => Effect::Set(
             dst,
-            Value::from_bool(Value(reg(regs, lhs)).str_eq(Value(reg(regs, rhs)))).0,
+            Value::from(Value(reg(regs, lhs)).str_eq(Value(reg(regs, rhs)))).0,
         ),
         Op::Mov { dst, src } => Effect::Set(dst, reg(regs, src)),
         Op::LoadI { dst, value } => Effect::Set(dst, value),

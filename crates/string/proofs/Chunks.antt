@@ -79,7 +79,8 @@ module _ (bytes : List ℕ) where
         let at = k * 8 in
         let room : at + 8 ≤ length bytes = omega arith in
         let some : 0 < length (drop at bytes) = rw length-drop (omega arith) in
-        let chunk : get_or chunks k d ≡ take 8 (drop at bytes) = ap (λ cs. get_or cs k d) fronts ∙ chunk_at k (length bytes / 8) bytes d (omega arith) in
+        let chunk : get_or chunks k d ≡ take 8 (drop at bytes) =
+        ap (λ cs. get_or cs k d) fronts ∙ chunk_at k (length bytes / 8) bytes d (omega arith) in
         let long : length (take 8 (drop at bytes)) ≡ 8 = length-take-le 8 (drop at bytes) (rw length-drop (omega arith)) in
         let word : w ≡ value_of (take 8 (drop at bytes)) = p ∙ ap (from_le_bytes w64) chunk ∙ from_le_bytes-value (take 8 (drop at bytes)) long in
         let next : at + 8 ≡ (k + 1) * 8 = omega arith in

@@ -1,11 +1,11 @@
 -- Worked cases beside those that document 01 marks (P), which stand in `corners`: one table; the one fact, by computation, that all its rows
 -- hold is `all_hold` of proofs/Cases.antt. The ends of a division, `CastToBool`, `BEq` and the one NaN are document 01's, the sign of a
 -- remainder is the Rust's, the sums, the comparison and the double of -2^63 are IEEE 754's. Definitions only.
-use Rattle.std.specs.Prelude.{ℕ, ◌+◌, ◌-◌, ◌^◌, List, [], ◌∷◌}
+use Rattle.std.specs.Prelude.{ℕ, ◌+◌, ◌-◌, ◌^◌, List, [], ◌∷◌, Result, Ok, Err}
 use Rattle.std.specs.Bool.{beq}
 use Rattle.std.specs.Float.Ieee as Ieee
-use Rattle.value.specs.declared.int.Divided.{Divided}
-use Rattle.value.specs.declared.int.Divided.TheVariants.{Exact, ByZero, Overflow}
+use Rattle.value.specs.declared.int.DivisionError.{DivisionError}
+use Rattle.value.specs.declared.int.DivisionError.TheVariants.{ByZero, Overflow}
 use Rattle.value.specs.Int.{quotient_of, remainder_of}
 use Rattle.value.specs.Double.{double, on}
 use Rattle.value.specs.Cast.{truth, bit, cast_to_bool, cast_to_double}
@@ -19,10 +19,10 @@ abbrev end : ℕ → ℕ
 end n = 2 ^ 64 + n
 
 -- a division's answer as one number: the pattern of a result, or the end that the instruction stops with
-abbrev shown : Divided → ℕ
-shown (Exact p) = p
-shown ByZero = end 1
-shown Overflow = end 7
+abbrev shown : Result ℕ DivisionError → ℕ
+shown (Ok p) = p
+shown (Err ByZero) = end 1
+shown (Err Overflow) = end 7
 
 -- what a definition gives, and what the papers say
 unfoldable pub rows : List (ℕ × ℕ)

@@ -14,8 +14,6 @@ pub mod int;
 // The sign bit, in both readings: from here on a pattern's integer is below 0.
 const SIGN: u64 = 0x8000_0000_0000_0000;
 
-const INFINITY: u64 = 0x7ff0_0000_0000_0000;
-
 // IEEE 754, 3.4, of binary64: a pattern is a sign S, a biased exponent E of w = 11 bits and a trailing
 // significand T of p - 1 = 52 bits. This is the weight of E.
 const EXPONENT: u64 = 0x10_0000_0000_0000;
@@ -29,7 +27,7 @@ const BIAS: u64 = 1023;
 // E of 2^63: 1,086.
 const TWO_63: u64 = BIAS + 63;
 
-#[derive(Clone, Copy)]
+#[derive(Clone, Copy, Debug, PartialEq, Eq)]
 pub struct Value(pub u64);
 
 impl Value {
@@ -43,33 +41,6 @@ impl Value {
 
     const MAX: Value = Value(SIGN - 1);
 
-    pub fn from_bool(b: bool) -> Value
-        ensures { result.0 ≡ bit b }
-    {
-        Value(b as u64)
-    }
-
-    // An `as` that would lose bits is not defined, so of an integer below 0 the complement is cast.
-    pub fn from_int(n: i64) -> Value
-        ensures { result.0 ≡ pattern n }
-    {
-        if n >= 0 {
-            Value(n as u64)
-        } else {
-            Value(u64::MAX - ((-1 - n) as u64))
-        }
-    }
-
-    pub fn from_f64(x: f64) -> Value
-        ensures { result.0 ≡ bits x }
-    {
-        if x != x {
-            Value::NAN
-        } else {
-            Value(f64::to_bits(x))
-        }
-    }
-
     pub fn as_bool(self) -> bool
         ensures { result ≡ truth self.0 }
     {
@@ -79,36 +50,27 @@ impl Value {
     pub fn as_int(self) -> i64
         ensures { result ≡ signed self.0 }
     {
-        if self.0 < SIGN {
-            self.0 as i64
-        } else {
-            -1 - ((u64::MAX - self.0) as i64)
-        }
+        self.0.cast_signed()
     }
 
-    // `from_bits` is not defined at a NaN. Without its sign a NaN's pattern is above the infinity's.
     pub fn as_f64(self) -> f64
         ensures { result ≡ double self.0 }
     {
-        if self.0 % SIGN > INFINITY {
-            0.0 / 0.0
-        } else {
-            f64::from_bits(self.0)
-        }
+        std::num::f64_from_bits_with_nan(self.0)
     }
 
     // CastToBool
     pub fn int_to_bool(self) -> Value
         ensures { result.0 ≡ cast_to_bool self.0 }
     {
-        Value::from_bool(self.0 != 0)
+        Value::from(self.0 != 0)
     }
 
     // CastToDouble: the nearest number, and of two that are as near the even one.
     pub fn int_to_f64(self) -> Value
         ensures { result.0 ≡ cast_to_double self.0 }
     {
-        Value::from_f64(std::num::nearest_i64_to_f64(self.as_int()))
+        Value::from(std::num::nearest_i64_to_f64(self.as_int()))
     }
 
     // CastToInt: toward zero, to the nearer end where the number is outside an i64, and 0 for a NaN. By cases
@@ -141,7 +103,7 @@ impl Value {
             let significand = SIGN + (trailing << 11);
             let size = significand >> (63 - (exponent - BIAS));
             if sign == 1 {
-                return Value(std::num::wrapping_sub_u64(0, size));
+                return Value(size.wrapping_neg());
             }
             return Value(size);
         }
@@ -163,5 +125,33 @@ impl Value {
         ensures { result ≡ beq (truth self.0) (truth other.0) }
     {
         self.as_bool() == other.as_bool()
+    }
+}
+
+impl From<bool> for Value {
+    ghost from_gives = { λ b value. value.0 ≡ bit b };
+
+    fn from(b: bool) -> Value {
+        Value(u64::from(b))
+    }
+}
+
+impl From<i64> for Value {
+    ghost from_gives = { λ n value. value.0 ≡ pattern n };
+
+    fn from(n: i64) -> Value {
+        Value(n.cast_unsigned())
+    }
+}
+
+impl From<f64> for Value {
+    ghost from_gives = { λ x value. value.0 ≡ bits x };
+
+    fn from(x: f64) -> Value {
+        if x.is_nan() {
+            Value::NAN
+        } else {
+            Value(x.to_bits())
+        }
     }
 }

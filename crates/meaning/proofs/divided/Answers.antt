@@ -2,14 +2,10 @@
 use Rattle.effects.specs.Effect.{divided}
 use Rattle.meaning.proofs.divided.Goals as goal
 
-pub returns-in-Exact : goal.returns-in-Exact
+pub returns-in-Ok : goal.returns-in-Ok
 unfolding divided
-returns-in-Exact c = rw c.in-Exact.is
+returns-in-Ok c = rw c.in-Ok.is
 
-pub returns-in-ByZero : goal.returns-in-ByZero
+pub returns-in-Err : goal.returns-in-Err
 unfolding divided
-returns-in-ByZero c = rw c.in-ByZero.is
-
-pub returns-in-Overflow : goal.returns-in-Overflow
-unfolding divided
-returns-in-Overflow c = rw c.in-Overflow.is
+returns-in-Err c = rw (c.in-Err.is, c.number_of_division.ensures)

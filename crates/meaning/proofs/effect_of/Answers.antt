@@ -379,27 +379,27 @@ returns-in-IAndI c = rw (c.in-IAndI.is, c.and-in-IAndI.ensures, c.reg-in-IAndI.e
 
 pub returns-in-ILt : goal.returns-in-ILt
 unfolding effect_of rows carried opcode_of
-returns-in-ILt c = rw (c.in-ILt.is, c.from_bool.ensures, c.lt.ensures, c.reg-in-ILt.ensures, c.reg-in-ILt-2.ensures)
+returns-in-ILt c = rw (c.in-ILt.is, c.from.ensures, c.lt.ensures, c.reg-in-ILt.ensures, c.reg-in-ILt-2.ensures)
 
 pub returns-in-IGt : goal.returns-in-IGt
 unfolding effect_of rows carried opcode_of
-returns-in-IGt c = rw (c.in-IGt.is, c.from_bool-in-IGt.ensures, c.gt.ensures, c.reg-in-IGt.ensures, c.reg-in-IGt-2.ensures)
+returns-in-IGt c = rw (c.in-IGt.is, c.from-in-IGt.ensures, c.gt.ensures, c.reg-in-IGt.ensures, c.reg-in-IGt-2.ensures)
 
 pub returns-in-IEq : goal.returns-in-IEq
 unfolding effect_of rows carried opcode_of
-returns-in-IEq c = rw (c.in-IEq.is, c.from_bool-in-IEq.ensures, c.reg-in-IEq.ensures, c.reg-in-IEq-2.ensures)
+returns-in-IEq c = rw (c.in-IEq.is, c.from-in-IEq.ensures, c.reg-in-IEq.ensures, c.reg-in-IEq-2.ensures)
 
 pub returns-in-IEqI : goal.returns-in-IEqI
 unfolding effect_of rows carried opcode_of
-returns-in-IEqI c = rw (c.in-IEqI.is, c.from_bool-in-IEqI.ensures, c.reg-in-IEqI.ensures)
+returns-in-IEqI c = rw (c.in-IEqI.is, c.from-in-IEqI.ensures, c.reg-in-IEqI.ensures)
 
 pub returns-in-IGtI : goal.returns-in-IGtI
 unfolding effect_of rows carried opcode_of
-returns-in-IGtI c = rw (c.in-IGtI.is, c.from_bool-in-IGtI.ensures, c.gt-in-IGtI.ensures, c.reg-in-IGtI.ensures)
+returns-in-IGtI c = rw (c.in-IGtI.is, c.from-in-IGtI.ensures, c.gt-in-IGtI.ensures, c.reg-in-IGtI.ensures)
 
 pub returns-in-ILtI : goal.returns-in-ILtI
 unfolding effect_of rows carried opcode_of
-returns-in-ILtI c = rw (c.in-ILtI.is, c.from_bool-in-ILtI.ensures, c.lt-in-ILtI.ensures, c.reg-in-ILtI.ensures)
+returns-in-ILtI c = rw (c.in-ILtI.is, c.from-in-ILtI.ensures, c.lt-in-ILtI.ensures, c.reg-in-ILtI.ensures)
 
 pub returns-in-DAdd : goal.returns-in-DAdd
 unfolding effect_of rows carried opcode_of
@@ -420,20 +420,20 @@ returns-in-DDiv c = rw (c.in-DDiv.is, c.div-in-DDiv.ensures, c.reg-in-DDiv.ensur
 pub returns-in-DLt : goal.returns-in-DLt
 unfolding effect_of rows carried opcode_of
 returns-in-DLt c =
-    rw (c.in-DLt.is, c.from_bool-in-DLt.ensures, c.lt-in-DLt.ensures, c.reg-in-DLt.ensures, c.reg-in-DLt-2.ensures)
+    rw (c.in-DLt.is, c.from-in-DLt.ensures, c.lt-in-DLt.ensures, c.reg-in-DLt.ensures, c.reg-in-DLt-2.ensures)
 
 pub returns-in-DGt : goal.returns-in-DGt
 unfolding effect_of rows carried opcode_of
 returns-in-DGt c =
-    rw (c.in-DGt.is, c.from_bool-in-DGt.ensures, c.gt-in-DGt.ensures, c.reg-in-DGt.ensures, c.reg-in-DGt-2.ensures)
+    rw (c.in-DGt.is, c.from-in-DGt.ensures, c.gt-in-DGt.ensures, c.reg-in-DGt.ensures, c.reg-in-DGt-2.ensures)
 
 pub returns-in-BEq : goal.returns-in-BEq
 unfolding effect_of rows carried opcode_of
-returns-in-BEq c = rw (c.in-BEq.is, c.from_bool-in-BEq.ensures, c.bool_eq.ensures, c.reg-in-BEq.ensures, c.reg-in-BEq-2.ensures)
+returns-in-BEq c = rw (c.in-BEq.is, c.from-in-BEq.ensures, c.bool_eq.ensures, c.reg-in-BEq.ensures, c.reg-in-BEq-2.ensures)
 
 pub returns-in-SEq : goal.returns-in-SEq
 unfolding effect_of rows carried opcode_of
-returns-in-SEq c = rw (c.in-SEq.is, c.from_bool-in-SEq.ensures, c.str_eq.ensures, c.reg-in-SEq.ensures, c.reg-in-SEq-2.ensures)
+returns-in-SEq c = rw (c.in-SEq.is, c.from-in-SEq.ensures, c.str_eq.ensures, c.reg-in-SEq.ensures, c.reg-in-SEq-2.ensures)
 
 pub returns-in-Mov : goal.returns-in-Mov
 unfolding effect_of rows carried opcode_of

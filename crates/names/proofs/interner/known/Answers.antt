@@ -6,7 +6,11 @@ use Rattle.names.proofs.interner.known.Goals as goal
 
 pub returns-in-Some : goal.returns-in-Some
 unfolding said_of
-returns-in-Some g c = λ rest l. told_found (holding rest c.args.gc c.args.strings) (lend_names _ _ _ l) _ c.requires _ c.hash-hash.ensures _ c.get.ensures _ c.in-Some.is
+returns-in-Some g c =
+    λ rest l. told_found (holding rest c.args.gc c.args.strings) (lend_names _ _ _ l) _ c.requires _ c.hash-hash.ensures _ c.get.ensures _
+    c.in-Some.is
 
 pub returns-in-None : goal.returns-in-None
-returns-in-None g c = λ rest l. told_fresh (holding rest c.args.gc c.args.strings) (lend_names _ _ _ l) _ c.requires _ c.hash-hash.ensures _ c.get.ensures c.in-None.is _ (c.fresh.ensures rest l)
+returns-in-None g c =
+    λ rest l. told_fresh (holding rest c.args.gc c.args.strings) (lend_names _ _ _ l) _ c.requires _ c.hash-hash.ensures _ c.get.ensures
+    c.in-None.is _ (c.fresh.ensures rest l)

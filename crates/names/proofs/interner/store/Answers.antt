@@ -19,19 +19,23 @@ returns-in_err-address g c =
     rw c.from_residual.ensures (store_refused _ _ _ _ _ _ _ (block_of g (goal.at.returns-in_err-address g c).After-alloc) c.in_err-address.was)
 
 pub overflow_sub-at : goal.overflow_sub-at
-overflow_sub-at g c = store_above _ (g.N.Name.bytes c.args.name) c.args.hash _ _ _ _ (block_of g (goal.at.overflow_sub-at g c).After-alloc) _ c.in_ok-address.was
+overflow_sub-at g c = store_above _ (g.N.Name.bytes c.args.name) c.args.hash _ _ _ _
+    (block_of g (goal.at.overflow_sub-at g c).After-alloc) _ c.in_ok-address.was
 
 pub slice_bounds-write_payload-count : goal.slice_bounds-write_payload-count
 slice_bounds-write_payload-count g c =
-    store_starts _ (g.N.Name.bytes c.args.name) c.args.hash _ _ _ _ (block_of g (goal.at.slice_bounds-write_payload-count g c).After-alloc) _ c.in_ok-address.was
+    store_starts _ (g.N.Name.bytes c.args.name) c.args.hash _ _ _ _
+    (block_of g (goal.at.slice_bounds-write_payload-count g c).After-alloc) _ c.in_ok-address.was
 
 pub slice_bounds-write_payload-start : goal.slice_bounds-write_payload-start
 slice_bounds-write_payload-start g c =
-    store_starts _ (g.N.Name.bytes c.args.name) c.args.hash _ _ _ _ (block_of g (goal.at.slice_bounds-write_payload-start g c).After-alloc) _ c.in_ok-address.was
+    store_starts _ (g.N.Name.bytes c.args.name) c.args.hash _ _ _ _
+    (block_of g (goal.at.slice_bounds-write_payload-start g c).After-alloc) _ c.in_ok-address.was
 
 pub write_payload-requires : goal.write_payload-requires
 write_payload-requires g c =
-    store_room _ (g.N.Name.bytes c.args.name) c.args.hash _ _ _ _ (block_of g (goal.at.write_payload-requires g c).After-alloc) _ c.in_ok-address.was
+    store_room _ (g.N.Name.bytes c.args.name) c.args.hash _ _ _ _
+    (block_of g (goal.at.write_payload-requires g c).After-alloc) _ c.in_ok-address.was
 
 pub returns : goal.returns
 returns g c = store_done _ _ _ _ _ _ _ (block_of g (goal.at.returns g c).After-alloc) _ c.in_ok-address.was _ c.write_payload.ensures

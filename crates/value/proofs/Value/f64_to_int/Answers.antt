@@ -26,7 +26,7 @@ returns-then-exponent-ge-TWO_63 c = bottom_end c.args.self.0 (omega arith) c.if-
 pub returns-then-sign-eq1 : goal.returns-then-sign-eq1
 returns-then-sign-eq1 c =
     size_negated c.args.self.0 (omega arith) (omega arith) (omega arith)
-    c.wrapping_sub_u64.result (omega arith) c.wrapping_sub_u64.ensures.value
+    c.wrapping_neg.result (omega arith) c.wrapping_neg.ensures
 
 pub returns-then-exponent-ge-BIAS : goal.returns-then-exponent-ge-BIAS
 returns-then-exponent-ge-BIAS c = size-kept c.args.self.0 (omega arith) (omega arith) (omega arith)

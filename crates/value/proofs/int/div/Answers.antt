@@ -1,15 +1,18 @@
 -- `value::int::div` meets its contract. Assumes nothing.
-use Rattle.value.proofs.Divides.{by_zero, overflowed, divisor_above_zero, quotient_in_range, quotient}
+use Rattle.std.proofs.Common.{◌≡◌, ◌∙◌, sym, Err}
+use borrow.Author.Rules.{rules}
+use Rattle.value.proofs.Divides.{refused, divisor_above_zero, quotient_in_range, quotient}
 use Rattle.value.proofs.int.div.Goals as goal
 
-pub returns-then-b-eq0 : goal.returns-then-b-eq0
-returns-then-b-eq0 c = search by_zero
-
-pub returns-then-quotient_overflows : goal.returns-then-quotient_overflows
-returns-then-quotient_overflows c = search overflowed
+pub returns-in_err-x : goal.returns-in_err-x
+returns-in_err-x c =
+    let e : c.from_residual.result ≡ Err c.in_err-x.field-0.0 = search rules in
+    e ∙ refused _ _ _ _ (sym c.in_err-x.was ∙ c.operands.ensures)
 
 pub nonzero_div-x : goal.nonzero_div-x
-nonzero_div-x c = search (divisor_above_zero, quotient_in_range)
+nonzero_div-x c =
+    let is = sym c.in_ok-x.was ∙ c.operands.ensures in
+    (divisor_above_zero c.args.a c.args.b c.ranges.a c.ranges.b is, quotient_in_range c.args.a c.args.b c.ranges.a c.ranges.b is)
 
 pub returns : goal.returns
-returns c = search quotient
+returns c = quotient c.args.a c.args.b c.ranges.a c.ranges.b (sym c.in_ok-x.was ∙ c.operands.ensures) c.from.ensures
