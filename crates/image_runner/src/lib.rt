@@ -93,6 +93,7 @@ fn image_text(input: &[u8]) -> Result<Text, Refusal>
     let mut spare = [0u64; MAX_SLOTS];
     let mut name = [0u8; MAX_NAME];
     let total = join(input, &mut words);
+    // lent one by one: of a struct of `&mut` fields, the second call that is lent them gets no proof
     Ok(rate(
         input,
         head,
