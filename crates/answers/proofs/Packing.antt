@@ -1,17 +1,17 @@
 -- Packing and unpacking are inverse on every state. Assumes nothing.
 use mathlib.Core.Path.{◌≡◌, refl, sym, ap, ◌∙◌}
-use Prim.Native.Nat.{ℕ, ◌+◌, ◌-◌, ◌≤◌}
+use Prim.Native.Nat.{ℕ, ◌+◌, ◌≤◌}
 use mathlib.Core.List.{List, [], ◌∷◌, ◌++◌, append_assoc}
 use native.Mathlib.Omega.{arith}
-use native.Mathlib.Nat.{zero-add}
-use lib.ListN.{length, take, drop, get_or, length-append}
+use lib.ListN.{length, take, drop, get_or, set, length-append, length-drop, length-set, drop_of_length-le}
 use lib.Seq.{take-suc, take_at, get_or-append-add, length-take-le}
-use Rattle.memory.specs.Lists.{over, write}
-use Rattle.memory.proofs.Over.{length_over, over-take, over-is, tail_returned, write-append}
-use Rattle.str_table.specs.declared.StrTable.{StrTable}
-use Rattle.gc.specs.declared.Gc.{Gc}
+use borrow.Rule.Slice.PartMut.{put_mid}
+use Rattle.std.proofs.lemmas.List.{take-set-le, get_or-set_same, get_or-set_other}
+use Rattle.memory.specs.Lists.{over}
+use Rattle.memory.proofs.Over.{over-take, over-is}
 use Rattle.vm.specs.declared.State.{State}
-use Rattle.vm.specs.Told.{holding}
+use Rattle.names.specs.declared.interner.Names.{Names}
+use Rattle.names.specs.Interned.{names_of, in_state}
 use Rattle.answers.specs.Words.{state_words, names, numbers, packed, unpacked}
 
 -- a list written over one as long
@@ -21,14 +21,6 @@ over_whole [] [] e = refl
 over_whole [] (y ∷ old) e = absurd (omega (arith, e))
 over_whole (x ∷ new) [] e = absurd (omega (arith, e))
 over_whole (x ∷ new) (y ∷ old) e = ap (λ (r : List ℕ). x ∷ r) (over_whole new old (omega (arith, e)))
-
--- the registers written over words, then the numbers behind them
-pub packed-home : (s : State) (w u v : List ℕ) → length s.regs ≡ 32 → state_words ≤ length w → u ≡ over s.regs w
-    → v ≡ over (numbers s) (take (length u - 32) (drop 32 u)) → take 32 u ++ (v ++ drop (length u - 32) (drop 32 u)) ≡ over (packed s) w
-unfolding packed write
-packed-home s w u v long room e f =
-    rw (f, tail_returned 32 (length u) (numbers s) u refl (rw (e, length_over) (omega arith)), e)
-    (ap (λ (n : ℕ). write n (numbers s) (over s.regs w)) (sym (zero-add _ ∙ long)) ∙ write-append 0 s.regs (numbers s) w)
 
 pub length-packed : (s : State) → length s.regs ≡ 32 → length (packed s) ≡ state_words
 unfolding packed
@@ -49,17 +41,45 @@ packed-unpacked w room =
       take-suc w 32 0 (omega arith),
     ) (simp append_assoc))
 
+-- a state written over forty words is all of them
+whole : (s : State) (w : List ℕ) → length s.regs ≡ 32 → length w ≡ 40 → over (packed s) w ≡ packed s
+whole s w regs long = over_whole (packed s) w (length-packed s regs ∙ sym long)
+
+registers : (w : List ℕ) → length w ≡ 40 → length (unpacked w).regs ≡ 32
+unfolding unpacked
+registers w long = length-take-le 32 w (omega arith)
+
 -- other numbers of heap and table, written over their own words
-pub names-home : (w v : List ℕ) (g : Gc) (t : StrTable) → state_words ≤ length w → v ≡ over (names g t) (take (length w - 34) (drop 34 w))
-    → take 34 w ++ (v ++ drop (length w - 34) (drop 34 w)) ≡ over (packed (holding (unpacked w) g t)) w
-unfolding packed unpacked write
-names-home w v g t room f =
-    let front : packed (holding (unpacked w) g t) ≡ take 34 w ++ names g t =
+pub names-home : (w v : List ℕ) (n : Names) → length w ≡ 40 → v ≡ names n.gc n.strings
+    → put_mid 34 6 w v ≡ over (packed (in_state (unpacked w) n)) w
+unfolding packed unpacked
+names-home w v n long e =
+    let front : packed (in_state (unpacked w) n) ≡ take 34 w ++ names n.gc n.strings =
     sym (rw (take-suc w 33 0 (omega arith), take-suc w 32 0 (omega arith)) (simp append_assoc)) in
-    let long : length (take 34 w) ≡ 34 = length-take-le 34 w (omega arith) in
-    rw (f, tail_returned 34 (length w) (names g t) w refl (omega arith), front)
-    (ap (λ (n : ℕ). write n (names g t) w) (sym (zero-add _ ∙ long))
-    ∙ ap (write (0 + length (take 34 w)) (names g t)) (sym (over-take 34 w)) ∙ write-append 0 (take 34 w) (names g t) w)
+    let few : length (drop 34 w) ≤ 6 = rw length-drop (omega arith) in
+    let none : drop 6 (drop 34 w) ≡ [] = drop_of_length-le (drop 34 w) few in
+    rw (e, none) (sym (whole (in_state (unpacked w) n) w (registers w long) long ∙ front))
+
+-- a state, of which registers, pc and depth are there and the numbers of heap and table are written last
+module _ (s : State) (d w : List ℕ) (regs : length s.regs ≡ 32) (rest : length d ≡ 8) (long : length w ≡ 40) where
+  abbrev begun : List ℕ
+  begun = set (set (s.regs ++ d) 32 s.pc) 33 s.depth
+
+  begun_long : length begun ≡ 40
+  begun_long = rw (length-set, length-set, length-append) (omega arith)
+
+  pub packed-home : over (packed (in_state (unpacked begun) (names_of s))) begun ≡ over (packed s) w
+  unfolding packed unpacked
+  packed-home =
+      let room : length (s.regs ++ d) ≡ 40 = rw length-append (omega arith) in
+      let first : take 32 begun ≡ s.regs =
+      take-set-le 32 (set (s.regs ++ d) 32 s.pc) 33 s.depth (omega arith) ∙ take-set-le 32 (s.regs ++ d) 32 s.pc (omega arith)
+      ∙ take_at s.regs d 32 regs in
+      let second : get_or begun 32 0 ≡ s.pc =
+      get_or-set_other (set (s.regs ++ d) 32 s.pc) 33 32 s.depth 0 (λ e. omega arith) ∙ get_or-set_same (s.regs ++ d) 32 s.pc 0 (omega arith) in
+      let third : get_or begun 33 0 ≡ s.depth = get_or-set_same (set (s.regs ++ d) 32 s.pc) 33 s.depth 0 (rw length-set (omega arith)) in
+      let same : packed (in_state (unpacked begun) (names_of s)) ≡ packed s = rw (first, second, third) refl in
+      whole (in_state (unpacked begun) (names_of s)) begun (registers begun begun_long) begun_long ∙ same ∙ sym (whole s w regs long)
 
 -- 'unchanged': the state that words hold, written over them
 pub pack_unpack : (w : List ℕ) → state_words ≤ length w → over (packed (unpacked w)) w ≡ w

@@ -1,105 +1,93 @@
 // What a call returns and writes: its number, the words of the state, and what is answered beside the number.
 #![tactic(auto)]
 
-ghost use Rattle.std.specs.Prelude.{◌≡◌, [], ◌∷◌, ◌≤◌, length};
-ghost use Rattle.vm.specs.Told.{said_of, option_of, holding};
-ghost use Rattle.vm.specs.Told.{answer_of};
-ghost use Rattle.answers.specs.Words.{state_words, unpacked};
-ghost use Rattle.answers.specs.Answered.{number_of, answered, given, kept};
+ghost use Rattle.std.specs.Prelude.{◌≡◌, [], ◌∷◌};
+ghost use Rattle.vm.specs.Machine.{value, done};
+ghost use Rattle.vm.specs.Told.{answer_by, answer_of};
+ghost use Rattle.names.specs.Interned.{in_state};
+ghost use Rattle.answers.specs.Words.{unpacked};
+ghost use Rattle.answers.specs.Answered.{number_of, answered, kept};
 
 pub mod words;
 
-use anomaly::{End, Steps};
-use names::interner::Interned;
-use run::Ran;
-use vm::{Called, Opt, Reply};
-use words::{pack, pack_names};
+use anomaly::{End, Refusal, Steps};
+use names::interner::Names;
+use vm::State;
+use words::{Words, pack, pack_names};
 
-// The number of a reply. The words of the state are written unless it is a refusal.
-pub fn answer(called: Called, words: &mut [u64]) -> u64
-    requires { state_words ≤ length words.old }
-    ensures { (result ≡ number_of (said_of called.reply))
-        × (words.new ≡ kept (said_of called.reply) called.state words.old) }
+// The number of what a call answers. The words of the state are written unless it was refused.
+pub fn answer(called: Result<(), Refusal>, state: State, words: &mut Words) -> u64
+    ensures number { result ≡ number_of (answer_by (λ _. done) called) }
+    ensures kept { words.new ≡ kept (answer_by (λ _. done) called) state words.old }
 {
-    let reply = called.reply;
-    match reply {
-        Reply::Value(_) | Reply::Done => {
-            let state = called.state;
+    match called {
+        Ok(()) => {
             pack(state, words);
             End::HALT
         }
-        Reply::Refused(why) => why.number(),
-    }
-}
-
-// The value of a reply, where there is one.
-fn put_value(reply: Reply, value: &mut u64)
-    ensures { value.new ∷ [] ≡ answered (said_of reply) (value.old ∷ []) }
-{
-    match reply {
-        Reply::Value(v) => {
-            *value = v;
-        }
-        Reply::Done | Reply::Refused(_) => {}
+        Err(why) => why.number(),
     }
 }
 
 // `answer`, and the value where there is one.
-pub fn answer_value(called: Called, words: &mut [u64], value: &mut u64) -> u64
-    requires { state_words ≤ length words.old }
-    ensures { (result ≡ number_of (said_of called.reply))
-        × (words.new ≡ kept (said_of called.reply) called.state words.old)
-        × (value.new ∷ [] ≡ answered (said_of called.reply) (value.old ∷ [])) }
+pub fn answer_value(
+    called: Result<u64, Refusal>,
+    state: State,
+    words: &mut Words,
+    to: &mut u64,
+) -> u64
+    ensures number { result ≡ number_of (answer_by value called) }
+    ensures kept { words.new ≡ kept (answer_by value called) state words.old }
+    ensures answered { to.new ∷ [] ≡ answered (answer_by value called) (to.old ∷ []) }
 {
-    let reply = called.reply;
-    put_value(reply, value);
-    answer(called, words)
+    match called {
+        Ok(v) => {
+            pack(state, words);
+            *to = v;
+            End::HALT
+        }
+        Err(why) => why.number(),
+    }
 }
 
 // The same of an interning.
-pub fn answer_name(interned: Interned, words: &mut [u64], value: &mut u64) -> u64
-    requires { state_words ≤ length words.old }
-    ensures { (result ≡ number_of (said_of interned.reply))
-        × (words.new
-        ≡ kept (said_of interned.reply) (holding (unpacked words.old) interned.gc interned.strings)
-        words.old)
-        × (value.new ∷ [] ≡ answered (said_of interned.reply) (value.old ∷ [])) }
+pub fn answer_name(
+    called: Result<u64, Refusal>,
+    names: Names,
+    words: &mut Words,
+    to: &mut u64,
+) -> u64
+    ensures number { result ≡ number_of (answer_by value called) }
+    ensures kept { words.new ≡ kept (answer_by value called) (in_state (unpacked words.old) names) words.old }
+    ensures answered { to.new ∷ [] ≡ answered (answer_by value called) (to.old ∷ []) }
 {
-    let reply = interned.reply;
-    put_value(reply, value);
-    match reply {
-        Reply::Value(_) | Reply::Done => {
-            let gc = interned.gc;
-            let strings = interned.strings;
-            pack_names(gc, strings, words);
+    match called {
+        Ok(v) => {
+            pack_names(names, words);
+            *to = v;
             End::HALT
         }
-        Reply::Refused(why) => why.number(),
+        Err(why) => why.number(),
     }
 }
 
 // The same of a run: pc and steps, unless it was refused.
-pub fn answer_run(ran: Ran, words: &mut [u64], pc: &mut usize, steps: &mut Steps) -> u64
-    requires { state_words ≤ length words.old }
-    ensures { (result ≡ number_of (answer_of ran.end))
-        × (words.new ≡ kept (answer_of ran.end) ran.state words.old)
-        × (pc.new ∷ steps.new ∷ [] ≡ answered (answer_of ran.end) (pc.old ∷ steps.old ∷ [])) }
+pub fn answer_run(
+    end: End,
+    state: State,
+    words: &mut Words,
+    pc: &mut usize,
+    steps: &mut Steps,
+) -> u64
+    ensures number { result ≡ number_of (answer_of end) }
+    ensures kept { words.new ≡ kept (answer_of end) state words.old }
+    ensures answered { pc.new ∷ steps.new ∷ [] ≡ answered (answer_of end) (pc.old ∷ steps.old ∷ []) }
 {
-    let end = ran.end;
-    match end {
-        End::Halt { .. } | End::Budget { .. } | End::Stopped { .. } => {
-            let state = ran.state;
-            pack(state, words);
-            *pc = end.pc();
-            *steps = end.steps();
-            end.number()
-        }
-        End::Refused(_) => end.number(),
+    if let End::Refused(why) = end {
+        return why.number();
     }
-}
-
-pub fn opt(some: bool, payload: u64) -> Opt
-    ensures { option_of result ≡ given some payload }
-{
-    if some { Opt::Some(payload) } else { Opt::None }
+    pack(state, words);
+    *pc = end.pc();
+    *steps = end.steps();
+    end.number()
 }

@@ -1,7 +1,6 @@
 -- Each case marked (P) in document 01, and its worked image, as rows of one table, and the one fact, by computation, that all rows hold. Every row
 -- goes through the machine's own start, calls and run but one, `small_hash`, which no call of the definition asks. Assumes nothing.
-use Rattle.std.specs.Prelude.{◌≡◌, refl, true, List, [], ◌∷◌, ℕ, zero, suc, ◌+◌, ◌-◌, ◌*◌, ◌^◌, get_or, replicate, take, drop}
-use Rattle.std.proofs.Math.Option.{none}
+use Rattle.std.specs.Prelude.{◌≡◌, refl, true, List, [], ◌∷◌, ℕ, zero, suc, ◌+◌, ◌-◌, ◌*◌, ◌^◌, get_or, replicate, take, drop, None}
 use Rattle.std.specs.Float.Ieee.{is_nan, of_bits, to_bits, of_int, to_signed}
 use Rattle.memory.specs.Bytes.{bytes_of, value_of}
 use Rattle.memory.specs.Lists.{over, write, same}
@@ -167,7 +166,7 @@ rows =
     ∷ (heap_word 8 (fresh 1 64), 2)
     ∷ (heap_word 16 (fresh 1 64), 0)
     ∷ (heap_word 24 (fresh 1 64), 0)
-    ∷ (answered (host (option none)) (fresh 1 64), B + 16)
+    ∷ (answered (host (option None)) (fresh 1 64), B + 16)
     ∷ ((fresh 1 64).state.gc.len, 32)
     -- then interning empty, `a`, `a` gives B+48, B+72, B+72; page length 81
     ∷ (answered (host (intern [])) (fresh 1 64), B + 48)

@@ -5,8 +5,6 @@ use Rattle.anomaly.specs.declared.Refusal.{Refusal}
 use Rattle.anomaly.specs.declared.Refusal.TheVariants.{Operand}
 use Rattle.memory.proofs.Tests.{both}
 use Rattle.anomaly.specs.Table.{is_anomaly}
-use Rattle.std.proofs.Common as std
-use Rattle.std.proofs.Common.{Result}
 use Rattle.value.specs.declared.int.DivisionError.{DivisionError}
 use Rattle.value.specs.declared.int.DivisionError.TheVariants.{ByZero, Overflow}
 use Rattle.value.specs.Cast.{truth}
@@ -18,8 +16,13 @@ use Rattle.op.specs.Reach.{reach_of, check_of}
 use Rattle.op.specs.Operands.{In, Makes, There}
 use Rattle.op.proofs.Rows.{Each, each_row, ◌also◌}
 use Rattle.op.proofs.Sound.{makes, fine}
+use Rattle.anomaly.specs.declared.Anomaly.TheVariants.{DivisionByZero, AllocationFailed, StackOverflow, AssertionFailed, BadAddress}
+use Rattle.anomaly.specs.declared.Anomaly.TheVariants.{QuotientOverflow, FrameUnderflow}
+use Rattle.effects.specs.declared.Stop.{Stop}
+use Rattle.effects.specs.declared.Stop.TheVariants as stop
 use Rattle.effects.specs.declared.Effect.{Effect}
 use Rattle.effects.specs.declared.Effect.TheVariants as effect
+use Rattle.effects.specs.Stops.{number_of_stop, IsAnomaly, EndsListed}
 use Rattle.program.specs.Image.{Image, start_of, entries_of, counts, below}
 use Rattle.effects.specs.Effect.{divided, jump_if, within, switched, effect_of, word_effect}
 
@@ -33,9 +36,33 @@ EffectOk n (effect.Call func) = func < n
 EffectOk n effect.Ret = Unit {0}
 EffectOk n (effect.Load dst base offset) = dst < 32
 EffectOk n (effect.Store base offset v) = Unit {0}
-EffectOk n (effect.Alloc dst kind size) = (dst < 32) × (kind < 4)
-EffectOk n (effect.Stop e) = is_anomaly e ≡ true
+EffectOk n (effect.Alloc dst kind size) = dst < 32
+EffectOk n (effect.Stop why) = IsAnomaly why
 EffectOk n effect.Halt = Unit {0}
+
+-- an anomaly's number is listed
+pub anomaly_listed : (why : Stop) → IsAnomaly why → is_anomaly (number_of_stop why) ≡ true
+anomaly_listed (stop.Anomaly DivisionByZero) a = refl
+anomaly_listed (stop.Anomaly AllocationFailed) a = refl
+anomaly_listed (stop.Anomaly StackOverflow) a = refl
+anomaly_listed (stop.Anomaly AssertionFailed) a = refl
+anomaly_listed (stop.Anomaly BadAddress) a = refl
+anomaly_listed (stop.Anomaly QuotientOverflow) a = refl
+anomaly_listed (stop.Anomaly FrameUnderflow) a = refl
+anomaly_listed (stop.Refused why) a = absurd a
+anomaly_listed stop.Unlisted a = absurd a
+
+pub ends_listed : (n : ℕ) (e : Effect) → EffectOk n e → EndsListed e
+ends_listed n (effect.Set dst v) o = tt
+ends_listed n effect.Skip o = tt
+ends_listed n (effect.Goto target) o = tt
+ends_listed n (effect.Call func) o = tt
+ends_listed n effect.Ret o = tt
+ends_listed n (effect.Load dst base offset) o = tt
+ends_listed n (effect.Store base offset v) o = tt
+ends_listed n (effect.Alloc dst kind size) o = tt
+ends_listed n (effect.Stop why) o = o
+ends_listed n effect.Halt o = tt
 
 either : (n : ℕ) (b : Bool) (x y : Effect) → (b ≡ true → EffectOk n x) → (b ≡ false → EffectOk n y) → EffectOk n (cond b x y)
 either n true x y h k = h refl
@@ -47,9 +74,9 @@ jump_ok n b target h = either n b _ _ (λ e. h) (λ e. tt)
 
 divided_ok : (n dst : ℕ) (d : Result ℕ DivisionError) → dst < 32 → EffectOk n (divided dst d)
 unfolding divided
-divided_ok n dst (std.Ok v) o = o
-divided_ok n dst (std.Err ByZero) o = refl
-divided_ok n dst (std.Err Overflow) o = refl
+divided_ok n dst (Ok v) o = o
+divided_ok n dst (Err ByZero) o = tt
+divided_ok n dst (Err Overflow) o = tt
 
 -- a read at a place that is there
 within_ok : (n i k : ℕ) (e : Effect) → i < k → EffectOk n e → EffectOk n (within i k e)
@@ -127,9 +154,9 @@ module _ (im : Image) (r : List ℕ) (targets : below (length im.code) im.switch
       -- 40: not carried
       tt also tt also tt also tt also tt also tt also tt also tt also tt also tt also
       -- 50: the casts, Alloc, Store, Load, AddrOf
-      sets also sets also sets also (λ p i h. (i.one, i.two)) also free also sets also sets also
+      sets also sets also sets also sets also free also sets also sets also
       -- 57: Ret, Assert, Halt, Nop
-      free also (λ p i h. either _ (truth (get_or r p.one 0)) _ _ (λ e. tt) (λ e. refl)) also free also free also
+      free also (λ p i h. either _ (truth (get_or r p.one 0)) _ _ (λ e. tt) (λ e. tt)) also free also free also
       tt
 
   by_row : (x : Row) (p : Parts) (op : Op) → RowOk x → Makes x p op → There (counts im) (reach_of x) p → EffectOk n (effect_of im r op)

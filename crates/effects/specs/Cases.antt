@@ -1,10 +1,13 @@
 -- What instructions ask for, worked out by computation. Assumes nothing.
 use Rattle.std.specs.Prelude.{◌≡◌, ℕ, ◌-◌, ◌^◌, List, [], ◌∷◌, map, refl}
+use Rattle.anomaly.specs.declared.Anomaly.TheVariants.{AssertionFailed}
+use Rattle.op.specs.declared.Keys.TheVariants.{Int}
 use Rattle.op.specs.declared.Op.{Op}
 use Rattle.op.specs.declared.Op.TheVariants as op
 use Rattle.program.specs.Image.{Image, tables_of, image_of, start_of, entries_of}
 use Rattle.effects.specs.declared.Effect.{Effect}
 use Rattle.effects.specs.declared.Effect.TheVariants as effect
+use Rattle.effects.specs.declared.Stop.TheVariants as stop
 use Rattle.effects.specs.Effect.{jump_if, within, slot, switched, effect_of}
 
 -- r0 to r4; every other register is 0
@@ -30,15 +33,15 @@ cases =
     (op.JmpF 0 8, effect.Skip) ∷
     (op.LoadG 5 0, effect.Set 5 70) ∷
     -- a subject among the keys; 'first−1 falls through a `Switch` and takes the default of a `Lookup`; so does an empty table'
-    (op.Switch 1 3 0, effect.Goto 30) ∷
-    (op.Switch 1 4 0, effect.Skip) ∷
-    (op.Switch 1 3 1, effect.Skip) ∷
-    (op.Lookup 1 5 3 0, effect.Set 5 40) ∷
-    (op.Lookup 1 5 4 0, effect.Set 5 50) ∷
-    (op.Lookup 1 5 3 1, effect.Set 5 51) ∷
+    (op.Switch Int 3 0, effect.Goto 30) ∷
+    (op.Switch Int 4 0, effect.Skip) ∷
+    (op.Switch Int 3 1, effect.Skip) ∷
+    (op.Lookup Int 5 3 0, effect.Set 5 40) ∷
+    (op.Lookup Int 5 4 0, effect.Set 5 50) ∷
+    (op.Lookup Int 5 3 1, effect.Set 5 51) ∷
     (op.Call 8, effect.Call 8) ∷
     (op.Tail 8, effect.Goto 8) ∷
-    (op.Assert 6, effect.Stop 4) ∷
+    (op.Assert 6, effect.Stop (stop.Anomaly AssertionFailed)) ∷
     (op.Store 3 16 0, effect.Store 10 16 2) ∷
     (op.Nop, effect.Skip) ∷
     []

@@ -10,14 +10,13 @@ use Rattle.value.specs.Cast.{truth, bit, cast_to_int, cast_to_double, cast_to_bo
 use Rattle.op.specs.declared.Op.{Op}
 use Rattle.op.specs.declared.Op.TheVariants as op
 use Rattle.anomaly.specs.declared.Refusal.{Refusal}
-use Rattle.anomaly.specs.Table.{number_of_refusal}
+use Rattle.anomaly.specs.declared.Anomaly.TheVariants.{DivisionByZero, QuotientOverflow, AssertionFailed}
+use Rattle.op.specs.declared.Keys.{Keys}
+use Rattle.op.specs.declared.Keys.TheVariants.{Str, Int}
+use Rattle.effects.specs.declared.Stop.TheVariants as stop
 use Rattle.effects.specs.declared.Effect.{Effect}
 use Rattle.effects.specs.declared.Effect.TheVariants as effect
 use Rattle.program.specs.Image.{Image, entries_of}
-
--- the end of a read outside the code, the globals or the tables. No table of ends has it: no run that is not refused comes to it
-abbrev pub unlisted : ℕ
-unlisted = 255
 
 -- 'Add, subtract and multiply keep the low 64 bits'
 abbrev pub low : ℕ → ℕ
@@ -34,24 +33,22 @@ abbrev pub less_double : ℕ → ℕ → ℕ
 less_double x y = bit (Ieee.lt (double x) (double y))
 
 -- 1 for a zero divisor, 7 for the one overflow
-abbrev pub number_of_division : DivisionError → ℕ
-number_of_division ByZero = 1
-number_of_division Overflow = 7
-
 unfoldable pub divided : ℕ → Result ℕ DivisionError → Effect
 divided dst (Ok v) = effect.Set dst v
-divided dst (Err why) = effect.Stop (number_of_division why)
+divided dst (Err ByZero) = effect.Stop (stop.Anomaly DivisionByZero)
+divided dst (Err Overflow) = effect.Stop (stop.Anomaly QuotientOverflow)
 
 unfoldable pub jump_if : Bool → ℕ → Effect
 jump_if b target = cond b (effect.Goto target) effect.Skip
 
 -- a read at i of n places, and what it gives
 unfoldable pub within : ℕ → ℕ → Effect → Effect
-within i n e = cond (nat_lt i n) e (effect.Stop unlisted)
+within i n e = cond (nat_lt i n) e (effect.Stop stop.Unlisted)
 
--- the slot of a subject: 'Subject first−1 falls through': the difference wraps. Keys of Str (0) lie 4 apart
-unfoldable pub slot : ℕ → ℕ → ℕ → ℕ
-slot kind subject first = cond (kind == 0) (minus subject first / 4) (minus subject first)
+-- the slot of a subject: 'Subject first−1 falls through': the difference wraps. Keys of Str lie 4 apart
+unfoldable pub slot : Keys → ℕ → ℕ → ℕ
+slot Str subject first = minus subject first / 4
+slot Int subject first = minus subject first
 
 -- `Switch`: the slot's target, or on to the next instruction where there is no such slot
 unfoldable pub switched : List ℕ → ℕ → Effect
@@ -94,14 +91,14 @@ effect_of im r (op.JmpEqI lhs imm target) = jump_if (slice_index r lhs == imm) t
 effect_of im r (op.JmpNeI lhs imm target) = jump_if (not (slice_index r lhs == imm)) target
 effect_of im r (op.JmpSEq lhs rhs target) = jump_if (slice_index r lhs == slice_index r rhs) target
 effect_of im r (op.JmpSNe lhs rhs target) = jump_if (not (slice_index r lhs == slice_index r rhs)) target
-effect_of im r (op.Switch kind subject table) =
+effect_of im r (op.Switch keys subject table) =
     within table (length im.switches.firsts)
-    (switched (entries_of im.switches table) (slot kind (slice_index r subject) (slice_index im.switches.firsts table)))
-effect_of im r (op.Lookup kind dst subject table) =
+    (switched (entries_of im.switches table) (slot keys (slice_index r subject) (slice_index im.switches.firsts table)))
+effect_of im r (op.Lookup keys dst subject table) =
     within table (length im.lookups.firsts)
     (effect.Set dst
     (slice_index_or (entries_of im.lookups table)
-    (slot kind (slice_index r subject) (slice_index im.lookups.firsts table))
+    (slot keys (slice_index r subject) (slice_index im.lookups.firsts table))
     (slice_index im.defaults table)))
 effect_of im r (op.Tail func) = effect.Goto func
 effect_of im r (op.Call func) = effect.Call func
@@ -113,11 +110,11 @@ effect_of im r (op.Store base offset src) = effect.Store (slice_index r base) of
 effect_of im r (op.Load dst base offset) = effect.Load dst (slice_index r base) offset
 effect_of im r (op.AddrOf dst base offset) = effect.Set dst (low (slice_index r base + offset))
 effect_of im r op.Ret = effect.Ret
-effect_of im r (op.Assert c) = cond (truth (slice_index r c)) effect.Skip (effect.Stop 4)
+effect_of im r (op.Assert c) = cond (truth (slice_index r c)) effect.Skip (effect.Stop (stop.Anomaly AssertionFailed))
 effect_of im r op.Halt = effect.Halt
 effect_of im r op.Nop = effect.Skip
 
 -- the effect of a decoded word. One that is no instruction would stop with its refusal; the loader has refused it before
 unfoldable pub word_effect : Image → List ℕ → Result Op Refusal → Effect
 word_effect im r (Ok o) = effect_of im r o
-word_effect im r (Err why) = effect.Stop (number_of_refusal why)
+word_effect im r (Err why) = effect.Stop (stop.Refused why)

@@ -3,21 +3,50 @@
 
 pub mod tables;
 
+use anomaly::{Anomaly, Refusal};
+use gc::AllocType;
+use op::Reg;
+
+// Why an instruction ends a run.
+#[derive(Clone, Copy, Debug, PartialEq, Eq)]
+pub enum Stop {
+    Anomaly(Anomaly),
+    // The word is no instruction. No run that is not refused comes to it.
+    Refused(Refusal),
+    // A read outside the globals or the tables. No run that is not refused comes to it.
+    Unlisted,
+}
+
 // What an instruction asks for, once its registers are read.
-#[derive(Clone, Copy)]
+#[derive(Clone, Copy, Debug, PartialEq, Eq)]
 pub enum Effect {
-    // register, value
-    Set(usize, u64),
+    Set {
+        dst: Reg,
+        value: u64,
+    },
     Skip,
-    Goto(usize),
-    Call(usize),
+    Goto {
+        target: usize,
+    },
+    Call {
+        func: usize,
+    },
     Ret,
-    // register, base, offset
-    Load(usize, u64, u64),
-    // base, offset, value
-    Store(u64, u64, u64),
-    // register, kind, size
-    Alloc(usize, u64, u64),
-    Stop(u64),
+    Load {
+        dst: Reg,
+        base: u64,
+        offset: u64,
+    },
+    Store {
+        base: u64,
+        offset: u64,
+        value: u64,
+    },
+    Alloc {
+        dst: Reg,
+        kind: AllocType,
+        size: u64,
+    },
+    Stop(Stop),
     Halt,
 }

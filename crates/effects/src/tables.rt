@@ -1,127 +1,64 @@
 // What an instruction reads of an image: a global, or the entry of a table.
-ghost use Rattle.std.specs.Prelude.{◌≡◌, ◌<◌, true, cond, length, nat_lt, slice_index, slice_index_or};
-ghost use Rattle.program.specs.Image.{tables_of, tables_ok, start_of, entries_of};
-ghost use Rattle.program.specs.Words.{cut, Ordered};
+ghost use Rattle.std.specs.Prelude.{◌≡◌, length, slice_index, slice_index_or};
+ghost use Rattle.program.specs.Image.{entries_of};
 ghost use Rattle.effects.specs.Effect.{within, slot, switched};
 
-use crate::Effect;
-use op::Op;
+use crate::{Effect, Stop};
+use op::{Keys, Reg};
+use program::Image;
 use string::ALIGN;
 
-// The end of a read outside the globals or the tables. No run that is not refused comes to it.
-const UNLISTED: u64 = 255;
-
-// What a table has for a subject.
-#[derive(Clone, Copy)]
-enum Entry {
-    At(u64),
-    Missing,
-}
-
-pub fn load_global(dst: usize, idx: usize, image: &[u64]) -> Effect
-    requires { Ordered image.now }
-    ensures { result ≡ within idx (length (cut image.now).globals) (Effect.Set dst (slice_index (cut image.now).globals idx)) }
+#[tactic(auto, unfolding(crate::specs::Effect::within))]
+pub fn load_global(dst: Reg, idx: usize, image: &Image) -> Effect
+    ensures { result ≡ within idx (length image.now.globals) (Effect.Set dst (slice_index image.now.globals idx)) }
 {
-    let from = image[0] as usize;
-    let to = image[1] as usize;
-    let globals = &image[from..to];
-    if idx < globals.len() {
-        Effect::Set(dst, globals[idx])
-    } else {
-        Effect::Stop(UNLISTED)
+    match image.globals().get(idx) {
+        Some(&value) => Effect::Set { dst, value },
+        None => Effect::Stop(Stop::Unlisted),
     }
-}
-
-// Where the entries of a table start.
-fn starts_at(ends: &[u64], table: usize) -> u64
-    requires { table < length ends.now }
-    ensures { result ≡ start_of ends.now table }
-{
-    if table == 0 { 0 } else { ends[table - 1] }
 }
 
 // 'Subject first−1 falls through': the difference wraps. Keys of Str lie 4 apart.
-fn slot(kind: u64, subject: u64, first: u64) -> u64
-    ensures { result ≡ slot kind subject first }
+#[tactic(auto, using(crate::proofs::Asks::difference), unfolding(crate::specs::Effect::slot))]
+fn slot(keys: Keys, subject: u64, first: u64) -> u64
+    ensures { result ≡ slot keys subject first }
 {
-    let offset = std::num::wrapping_sub_u64(subject, first);
-    if kind == Op::STR {
-        offset / ALIGN
-    } else {
-        offset
+    let offset = subject.wrapping_sub(first);
+    match keys {
+        Keys::Str => offset / ALIGN,
+        Keys::Int => offset,
     }
 }
 
-// The entry of a subject in a table. The ends that are checked go up to the number of entries.
-fn find(
-    kind: u64,
-    subject: u64,
-    table: usize,
-    firsts: &[u64],
-    ends: &[u64],
-    entries: &[u64],
-) -> Entry
-    requires { (tables_ok (tables_of firsts.now ends.now entries.now) ≡ true) × (table < length firsts.now) }
-    ensures { result ≡ cond (nat_lt (slot kind subject (slice_index firsts.now table))
-        (length (entries_of (tables_of firsts.now ends.now entries.now) table)))
-        (Entry.At (slice_index_or (entries_of (tables_of firsts.now ends.now entries.now) table)
-        (slot kind subject (slice_index firsts.now table)) 0)) Entry.Missing }
-{
-    // the slot first: the loop of a run then keeps more in registers (`bench/steps` tells)
-    let s = slot(kind, subject, firsts[table]);
-    let from = starts_at(ends, table);
-    if s < ends[table] - from {
-        Entry::At(entries[(from + s) as usize])
-    } else {
-        Entry::Missing
-    }
-}
-
-pub fn switch(kind: u64, subject: u64, table: usize, image: &[u64]) -> Effect
-    requires { Ordered image.now × (tables_ok (cut image.now).switches ≡ true) }
+#[tactic(auto, unfolding(crate::specs::Effect::within, crate::specs::Effect::switched))]
+pub fn switch(keys: Keys, subject: u64, table: usize, image: &Image) -> Effect
     ensures { result
-        ≡ within table (length (cut image.now).switches.firsts) (switched (entries_of (cut image.now).switches table)
-        (slot kind subject (slice_index (cut image.now).switches.firsts table))) }
+        ≡ within table (length image.now.switches.firsts) (switched (entries_of image.now.switches table)
+        (slot keys subject (slice_index image.now.switches.firsts table))) }
 {
-    let a = image[1] as usize;
-    let b = image[2] as usize;
-    let c = image[3] as usize;
-    let d = image[4] as usize;
-    let firsts = &image[a..b];
-    let ends = &image[b..c];
-    let entries = &image[c..d];
-    if firsts.len() <= table {
-        return Effect::Stop(UNLISTED);
-    }
-    let entry = find(kind, subject, table, firsts, ends, entries);
-    match entry {
-        Entry::At(target) => Effect::Goto(target as usize),
-        Entry::Missing => Effect::Skip,
+    let Some((first, targets)) = image.switches().get(table) else {
+        return Effect::Stop(Stop::Unlisted);
+    };
+    match targets.get(slot(keys, subject, first) as usize) {
+        Some(&target) => Effect::Goto {
+            target: target as usize,
+        },
+        None => Effect::Skip,
     }
 }
 
-pub fn lookup(kind: u64, dst: usize, subject: u64, table: usize, image: &[u64]) -> Effect
-    requires { Ordered image.now × (tables_ok (cut image.now).lookups ≡ true)
-        × (length (cut image.now).defaults ≡ length (cut image.now).lookups.firsts) }
+#[tactic(auto, unfolding(crate::specs::Effect::within))]
+pub fn lookup(keys: Keys, dst: Reg, subject: u64, table: usize, image: &Image) -> Effect
     ensures { result
-        ≡ within table (length (cut image.now).lookups.firsts) (Effect.Set dst (slice_index_or (entries_of (cut image.now).lookups table)
-        (slot kind subject (slice_index (cut image.now).lookups.firsts table)) (slice_index (cut image.now).defaults table))) }
+        ≡ within table (length image.now.lookups.firsts) (Effect.Set dst (slice_index_or (entries_of image.now.lookups table)
+        (slot keys subject (slice_index image.now.lookups.firsts table)) (slice_index image.now.defaults table))) }
 {
-    let a = image[4] as usize;
-    let b = image[5] as usize;
-    let c = image[6] as usize;
-    let d = image[7] as usize;
-    let e = image[8] as usize;
-    let firsts = &image[a..b];
-    let ends = &image[b..c];
-    let entries = &image[c..d];
-    let defaults = &image[d..e];
-    if firsts.len() <= table {
-        return Effect::Stop(UNLISTED);
-    }
-    let entry = find(kind, subject, table, firsts, ends, entries);
-    match entry {
-        Entry::At(v) => Effect::Set(dst, v),
-        Entry::Missing => Effect::Set(dst, defaults[table]),
-    }
+    let Some((first, values)) = image.lookups().get(table) else {
+        return Effect::Stop(Stop::Unlisted);
+    };
+    let value = match values.get(slot(keys, subject, first) as usize) {
+        Some(&value) => value,
+        None => image.defaults()[table],
+    };
+    Effect::Set { dst, value }
 }

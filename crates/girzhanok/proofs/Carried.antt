@@ -25,7 +25,6 @@ use Rattle.answers.proofs.Packing.{unpack_pack}
 kept_case : (a : Answer) (s : State) (words : List ℕ) → state_words ≤ length words → length s.regs ≡ 32
     → ((e : ℕ) → a ≡ refused e → s ≡ unpacked words)
     → unpacked (kept a s words) ≡ s
-unfolding kept
 kept_case (ended e pc steps) s words room long same = unpack_pack s words long room
 kept_case (value v) s words room long same = unpack_pack s words long room
 kept_case done s words room long same = unpack_pack s words long room
@@ -58,6 +57,6 @@ begun_case (some e) base l m h = let never : ◌≡◌ {A = ℕ} 0 1 = cc in abs
 
 pub start_carried : (im : Image) (base : ℕ) (words : List ℕ) (l : Lent) → state_words ≤ length words → (m : Machine) → start im base l ≡ begun m
     → unpacked (serve_start im base words l).words ≡ m.state
-unfolding serve_start within left started_on kept start
+unfolding serve_start within left started_on start
 start_carried im base words l room m h = rw (le-leb state_words (length words) room, within, h)
     (unpack_pack m.state words (begun_case _ base l m h) room)

@@ -5,13 +5,12 @@ ghost use Rattle.std.specs.Prelude.{◌≡◌, [], ◌∷◌};
 ghost use Rattle.program.specs.Words.{image_in};
 ghost use Rattle.vm.specs.Machine.{Lent, lend_frames, lend_heap, lend_run, lend_names, run, setting, reset, put_pc, put_reg, host, allocate, option, intern, intern_small};
 ghost use Rattle.vm.specs.Told.{lent_of};
-ghost use Rattle.answers.specs.Answered.{given};
+ghost use Rattle.std.specs.Bool.{then_some};
 ghost use Rattle.girzhanok.specs.Served.{served_of, serve, serve_start};
 
-use anomaly::{End, Refusal, Steps};
-use answers::words::{pack, unpack, unpack_heap, unpack_table};
-use answers::{answer, answer_name, answer_run, answer_value, opt};
-use names::interner;
+use anomaly::{Refusal, Steps};
+use answers::words::{unpack, unpack_names};
+use answers::{answer, answer_name, answer_run, answer_value};
 use vm::start;
 
 // The words of a state.
@@ -31,11 +30,13 @@ pub extern "C" fn girzhanok_start(
         (lent_of frames.new heap.new slots.now spare.now)
         ≡ serve_start (image_in image.now) base state.old (lent_of frames.old heap.old slots.now spare.now) }
 {
-    if state.len() < STATE_WORDS {
+    let Some(words) = state.first_chunk_mut::<STATE_WORDS>() else {
         return Refusal::SIZE;
+    };
+    match start::start(base, image, frames, heap, slots, spare) {
+        Ok(machine) => answer(Ok(()), machine, words),
+        Err(why) => why.number(),
     }
-    let called = start::start(base, image, frames, heap, slots, spare);
-    answer(called, state)
 }
 
 #[unsafe(no_mangle)]
@@ -54,11 +55,11 @@ pub extern "C" fn girzhanok_run(
         ≡ serve (run (image_in image.now) budget) state.old (pc.old ∷ steps.old ∷ [])
         (lend_run frames.old heap.old l) }
 {
-    if state.len() < STATE_WORDS {
+    let Some(words) = state.first_chunk_mut::<STATE_WORDS>() else {
         return Refusal::SIZE;
-    }
-    let ran = run::run(unpack(state), budget, image, frames, heap);
-    answer_run(ran, state, pc, steps)
+    };
+    let ran = run::run(unpack(words), budget, image, frames, heap);
+    answer_run(ran.end, ran.state, words, pc, steps)
 }
 
 #[unsafe(no_mangle)]
@@ -67,34 +68,36 @@ pub extern "C" fn girzhanok_reset(state: &mut [u64], frames: &mut [u64]) -> u64
         → served_of result state.new [] (lend_frames frames.new l)
         ≡ serve (setting reset) state.old [] (lend_frames frames.old l) }
 {
-    if state.len() < STATE_WORDS {
+    let Some(words) = state.first_chunk_mut::<STATE_WORDS>() else {
         return Refusal::SIZE;
-    }
-    let called = unpack(state).reset(frames);
-    answer(called, state)
+    };
+    let mut machine = unpack(words);
+    let called = machine.reset(frames);
+    answer(called, machine, words)
 }
 
 #[unsafe(no_mangle)]
 pub extern "C" fn girzhanok_set_pc(state: &mut [u64], pc: usize) -> u64
     ensures { (l : Lent) → served_of result state.new [] l ≡ serve (setting (put_pc pc)) state.old [] l }
 {
-    if state.len() < STATE_WORDS {
+    let Some(words) = state.first_chunk_mut::<STATE_WORDS>() else {
         return Refusal::SIZE;
-    }
-    let to = unpack(state).set_pc(pc);
-    pack(to, state);
-    End::HALT
+    };
+    let mut machine = unpack(words);
+    machine.set_pc(pc);
+    answer(Ok(()), machine, words)
 }
 
 #[unsafe(no_mangle)]
 pub extern "C" fn girzhanok_set_register(state: &mut [u64], number: usize, value: u64) -> u64
     ensures { (l : Lent) → served_of result state.new [] l ≡ serve (setting (put_reg number value)) state.old [] l }
 {
-    if state.len() < STATE_WORDS {
+    let Some(words) = state.first_chunk_mut::<STATE_WORDS>() else {
         return Refusal::SIZE;
-    }
-    let called = unpack(state).set_register(number, value);
-    answer(called, state)
+    };
+    let mut machine = unpack(words);
+    let called = machine.set_register(number, value);
+    answer(called, machine, words)
 }
 
 #[unsafe(no_mangle)]
@@ -111,11 +114,12 @@ pub extern "C" fn girzhanok_allocate(
         ≡ serve (host (allocate kind align size)) state.old (value.old ∷ [])
         (lend_heap heap.old l) }
 {
-    if state.len() < STATE_WORDS {
+    let Some(words) = state.first_chunk_mut::<STATE_WORDS>() else {
         return Refusal::SIZE;
-    }
-    let called = unpack(state).allocate(kind, align, size, heap);
-    answer_value(called, state, value)
+    };
+    let mut machine = unpack(words);
+    let called = machine.allocate(kind, align, size, heap);
+    answer_value(called, machine, words, value)
 }
 
 // An option of `payload`, or of none.
@@ -129,14 +133,15 @@ pub extern "C" fn girzhanok_option(
 ) -> u64
     ensures { (l : Lent)
         → served_of result state.new (value.new ∷ []) (lend_heap heap.new l)
-        ≡ serve (host (option (given some payload))) state.old (value.old ∷ [])
+        ≡ serve (host (option (then_some some payload))) state.old (value.old ∷ [])
         (lend_heap heap.old l) }
 {
-    if state.len() < STATE_WORDS {
+    let Some(words) = state.first_chunk_mut::<STATE_WORDS>() else {
         return Refusal::SIZE;
-    }
-    let called = unpack(state).new_option(opt(some, payload), heap);
-    answer_value(called, state, value)
+    };
+    let mut machine = unpack(words);
+    let called = machine.new_option(some.then_some(payload), heap);
+    answer_value(called, machine, words, value)
 }
 
 #[unsafe(no_mangle)]
@@ -154,13 +159,12 @@ pub extern "C" fn girzhanok_intern(
         ≡ serve (host (intern name.now)) state.old (value.old ∷ [])
         (lend_names heap.old slots.old spare.old l) }
 {
-    if state.len() < STATE_WORDS {
+    let Some(words) = state.first_chunk_mut::<STATE_WORDS>() else {
         return Refusal::SIZE;
-    }
-    let gc = unpack_heap(state);
-    let strings = unpack_table(state);
-    let interned = interner::intern(gc, strings, name, heap, slots, spare);
-    answer_name(interned, state, value)
+    };
+    let mut names = unpack_names(words);
+    let called = names.intern(name, heap, slots, spare);
+    answer_name(called, names, words, value)
 }
 
 #[unsafe(no_mangle)]
@@ -179,11 +183,10 @@ pub extern "C" fn girzhanok_intern_small(
         ≡ serve (host (intern_small len word)) state.old (value.old ∷ [])
         (lend_names heap.old slots.old spare.old l) }
 {
-    if state.len() < STATE_WORDS {
+    let Some(words) = state.first_chunk_mut::<STATE_WORDS>() else {
         return Refusal::SIZE;
-    }
-    let gc = unpack_heap(state);
-    let strings = unpack_table(state);
-    let interned = interner::intern_small(gc, strings, len, word, heap, slots, spare);
-    answer_name(interned, state, value)
+    };
+    let mut names = unpack_names(words);
+    let called = names.intern_small(len, word, heap, slots, spare);
+    answer_name(called, names, words, value)
 }

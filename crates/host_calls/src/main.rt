@@ -3,10 +3,10 @@
 
 ghost use Rattle.std.specs.Prelude.{◌≡◌, ◌+◌, length};
 
-use anomaly::{End, Steps};
+use anomaly::{End, Refusal, Steps};
 use program::HEADER;
 use std::io;
-use vm::{Called, Opt, Reply, State, start};
+use vm::{State, start};
 
 const BASE: u64 = 0x1_0000;
 
@@ -37,17 +37,27 @@ fn image<const N: usize>(code: &[u64]) -> [u64; N]
     words
 }
 
-fn print_reply(rt: &impl Print, label: &str, reply: Reply) -> io::Result<()> {
-    match reply {
-        Reply::Value(v) => println!(rt; "{label}: value {v:016x}"),
-        Reply::Done => println!(rt; "{label}: done"),
-        Reply::Refused(why) => println!(rt; "{label}: refused {:02x}", why.number()),
+fn print_refused(rt: &impl Print, label: &str, why: Refusal) -> io::Result<()> {
+    println!(rt; "{label}: refused {:02x}", why.number())
+}
+
+fn print_value(rt: &impl Print, label: &str, called: Result<u64, Refusal>) -> io::Result<()> {
+    match called {
+        Ok(v) => println!(rt; "{label}: value {v:016x}"),
+        Err(why) => print_refused(rt, label, why),
+    }
+}
+
+fn print_done(rt: &impl Print, label: &str, called: Result<(), Refusal>) -> io::Result<()> {
+    match called {
+        Ok(()) => println!(rt; "{label}: done"),
+        Err(why) => print_refused(rt, label, why),
     }
 }
 
 fn print_end(rt: &impl Print, label: &str, end: End) -> io::Result<()> {
     if let End::Refused(why) = end {
-        return println!(rt; "{label}: refused {:02x}", why.number());
+        return print_refused(rt, label, why);
     }
     println!(rt;
         "{label}: end {:02x} at {:016x} after {:08x}",
@@ -58,27 +68,19 @@ fn print_end(rt: &impl Print, label: &str, end: End) -> io::Result<()> {
 }
 
 // A start on a lone Halt.
-fn start(rt: &impl Print, label: &str, base: u64, lent: &mut Lent) -> io::Result<State> {
+fn start(base: u64, lent: &mut Lent) -> Result<State, Refusal> {
     let halt: [u64; 10] = image(&[HALT]);
-    let called = start::start(
+    start::start(
         base,
         &halt,
         &mut lent.frames,
         &mut lent.heap,
         &lent.slots,
         &lent.spare,
-    );
-    print_reply(rt, label, called.reply)?;
-    Ok(called.state)
+    )
 }
 
 impl Machine {
-    // What a call answered is printed, and the state is that after it.
-    fn answered(&mut self, rt: &impl Print, label: &str, called: Called) -> io::Result<()> {
-        self.state = called.state;
-        print_reply(rt, label, called.reply)
-    }
-
     fn run(
         &mut self,
         rt: &impl Print,
@@ -118,13 +120,13 @@ impl Machine {
 
     fn intern(&mut self, rt: &impl Print, label: &str, name: &[u8]) -> io::Result<()> {
         let called = names::intern(
-            self.state,
+            &mut self.state,
             name,
             &mut self.lent.heap,
             &mut self.lent.slots,
             &mut self.lent.spare,
         );
-        self.answered(rt, label, called)
+        print_value(rt, label, called)
     }
 
     fn intern_small(
@@ -135,14 +137,14 @@ impl Machine {
         word: u64,
     ) -> io::Result<()> {
         let called = names::intern_small(
-            self.state,
+            &mut self.state,
             len,
             word,
             &mut self.lent.heap,
             &mut self.lent.slots,
             &mut self.lent.spare,
         );
-        self.answered(rt, label, called)
+        print_value(rt, label, called)
     }
 
     fn allocate(
@@ -153,22 +155,20 @@ impl Machine {
         size: u64,
     ) -> io::Result<()> {
         let called = self.state.allocate(1, align, size, &mut self.lent.heap);
-        self.answered(rt, label, called)
+        print_value(rt, label, called)
     }
 
-    fn new_option(&mut self, rt: &impl Print, label: &str, value: Opt) -> io::Result<()> {
+    fn new_option(&mut self, rt: &impl Print, label: &str, value: Option<u64>) -> io::Result<()> {
         let called = self.state.new_option(value, &mut self.lent.heap);
-        self.answered(rt, label, called)
+        print_value(rt, label, called)
     }
 
     fn set_register(&mut self, rt: &impl Print, label: &str, register: usize) -> io::Result<()> {
-        let called = self.state.set_register(register, 1);
-        self.answered(rt, label, called)
+        print_done(rt, label, self.state.set_register(register, 1))
     }
 
     fn reset(&mut self, rt: &impl Print) -> io::Result<()> {
-        let called = self.state.reset(&mut self.lent.frames);
-        self.answered(rt, "reset", called)
+        print_done(rt, "reset", self.state.reset(&mut self.lent.frames))
     }
 }
 
@@ -178,12 +178,12 @@ fn runs(rt: &impl Print, machine: &mut Machine) -> io::Result<()> {
     machine.run(rt, "run", 10, &code)?;
     machine.print_registers(rt)?;
     machine.run(rt, "run from the Halt on", 10, &code)?;
-    machine.state = machine.state.set_pc(0);
+    machine.state.set_pc(0);
     machine.run(rt, "run with budget 0", 0, &code)?;
-    machine.state = machine.state.set_register(0, 1).state;
+    let _ = machine.state.set_register(0, 1);
     machine.run(rt, "run with budget 2", 2, &code)?;
     machine.print_registers(rt)?;
-    machine.state = machine.state.set_pc(0);
+    machine.state.set_pc(0);
     // IDiv r1, r0, r2; Halt
     let stops: [u64; 11] = image(&[0x0000_0000_0200_0106, HALT]);
     machine.run(rt, "run that divides by zero", 10, &stops)?;
@@ -197,10 +197,10 @@ fn runs(rt: &impl Print, machine: &mut Machine) -> io::Result<()> {
 fn returns(rt: &impl Print, machine: &mut Machine) -> io::Result<()> {
     let before = machine.state;
     let code: [u64; 11] = image(&[57, HALT]);
-    machine.state = machine.state.set_pc(0);
+    machine.state.set_pc(0);
     machine.run(rt, "run that returns from the root", 10, &code)?;
     machine.print_registers(rt)?;
-    machine.state = machine.state.set_pc(0);
+    machine.state.set_pc(0);
     machine.run(rt, "run that returns at depth 0", 10, &code)?;
     machine.print_registers(rt)?;
     // what follows goes on from the state before
@@ -232,8 +232,8 @@ fn blocks(rt: &impl Print, machine: &mut Machine) -> io::Result<()> {
     machine.allocate(rt, "allocate 40 bytes", 8, 40)?;
     machine.allocate(rt, "allocate with an alignment of 3", 3, 40)?;
     machine.allocate(rt, "allocate 2^20 bytes", 8, 0x10_0000)?;
-    machine.new_option(rt, "option of 5", Opt::Some(5))?;
-    machine.new_option(rt, "option of none", Opt::None)
+    machine.new_option(rt, "option of 5", Some(5))?;
+    machine.new_option(rt, "option of none", None)
 }
 
 fn names(rt: &impl Print, machine: &mut Machine) -> io::Result<()> {
@@ -247,15 +247,14 @@ fn names(rt: &impl Print, machine: &mut Machine) -> io::Result<()> {
 // 30 names more, and one that 64 slots have no room for.
 fn many_names(rt: &impl Print, machine: &mut Machine) -> io::Result<()> {
     for word in 1..31 {
-        let called = names::intern_small(
-            machine.state,
+        let _ = names::intern_small(
+            &mut machine.state,
             1,
             word,
             &mut machine.lent.heap,
             &mut machine.lent.slots,
             &mut machine.lent.spare,
         );
-        machine.state = called.state;
     }
     machine.intern_small(rt, "intern the 32nd name", 1, 30)?;
     machine.intern_small(rt, "intern the 33rd name", 1, 31)
@@ -268,8 +267,13 @@ fn main(rt: HostRuntime) -> io::Result<()> {
         slots: [0; 64],
         spare: [0; 64],
     };
-    start(&rt, "start at no page's address", 100, &mut lent)?;
-    let state = start(&rt, "start", BASE, &mut lent)?;
+    let odd = start(100, &mut lent);
+    print_done(&rt, "start at no page's address", odd.map(|_| ()))?;
+    let begun = start(BASE, &mut lent);
+    print_done(&rt, "start", begun.map(|_| ()))?;
+    let Ok(state) = begun else {
+        return Ok(());
+    };
     let mut machine = Machine { state, lent };
     machine.print_registers(&rt)?;
     machine.set_register(&rt, "set register 32", 32)?;

@@ -10,17 +10,8 @@ use Rattle.text.specs.declared.sections.Section.TheVariants.{Globals}
 use Rattle.text.specs.Sections.{section_in}
 use Rattle.text.specs.Names.{Name, named, names_in}
 use Rattle.text.proofs.Listing.{AllFit, names-fit}
-use Rattle.vm.specs.declared.Reply.{Reply}
-use Rattle.vm.specs.Told.{said_of}
-use Rattle.vm.specs.Machine.{Lent, Machine, Answer, ended, value, done, refused, Called, host, intern, perform}
+use Rattle.vm.specs.Machine.{Lent, Machine, Answer, value, done, refused, Called, host, intern, perform}
 use Rattle.image_names.specs.Named.{intern_on, intern_all}
-
--- a reply that is no value says none
-pub not_value : (r : Reply) → ((w : ℕ) → r ≡ Reply.Value w → ⊥) → (v : ℕ) → said_of r ≡ value v → ⊥
-unfolding said_of
-not_value (Reply.Value w) other v e = other w refl
-not_value Reply.Done other v e = let z : ◌≡◌ {A = ℕ} 0 1 = cc in absurd (omega arith)
-not_value (Reply.Refused why) other v e = let z : ◌≡◌ {A = ℕ} 0 1 = cc in absurd (omega arith)
 
 -- where the loop has come to: these names are left
 pub record Interning (s : List ℕ) (m₀ : Lent → Machine) (g₀ : List ℕ) (left : List Name) (m : Lent → Machine) (g : List ℕ) : Type 0 where
@@ -72,13 +63,10 @@ module _ {s : List ℕ} {m₀ : Lent → Machine} {g₀ : List ℕ} {left : List
     unfolding intern_on
     value_on l v p = answered l p
 
-    ended-on : (l : Lent) (a : Answer) → (its l).answer ≡ a → ((v : ℕ) → a ≡ value v → ⊥)
+    refused_on : (l : Lent) (k : ℕ) → (its l).answer ≡ refused k
         → record { called = its l; globals = g } ≡ intern_all (names_in s) (m₀ l) g₀
     unfolding intern_on
-    ended-on l (value v) p n = absurd (n v refl)
-    ended-on l (refused k) p n = answered l p
-    ended-on l done p n = answered l p
-    ended-on l (ended k pc steps) p n = answered l p
+    refused_on l k p = answered l p
 
     -- the call as it was made, of bytes that are the name's
     module _ {b : List ℕ} (back : b ≡ bytes) where
@@ -95,20 +83,17 @@ module _ {s : List ℕ} {m₀ : Lent → Machine} {g₀ : List ℕ} {left : List
           ap (λ (x : Machine). intern_all more x (set g global v)) (ap (λ (x : Called). x.machine) is)
           ∙ value_on l v (sym (ap (λ (x : Called). x.answer) is))
 
-      pub interning_next : {r : Reply} {v : ℕ} → r ≡ Reply.Value v → (m' : Lent → Machine)
-          → ((l : Lent) → record { answer = said_of r; machine = m' l } ≡ call l) → Interning s m₀ g₀ more m' (set g global v)
-      unfolding said_of
-      interning_next {r} {v} is m' c =
+      pub interning_next : (v : ℕ) (m' : Lent → Machine)
+          → ((l : Lent) → record { answer = value v; machine = m' l } ≡ call l) → Interning s m₀ g₀ more m' (set g global v)
+      interning_next v m' c =
           record {
-            same = λ l. value_by l v (m' l) (rw is at (c l));
+            same = λ l. value_by l v (m' l) (c l);
             fit = fits.1;
             long = length-set g global v ∙ e.long;
           }
 
-      pub interned_some : (x : Lent → Called) → ((l : Lent) → x l ≡ call l)
-          → ((l : Lent) (v : ℕ) → (x l).answer ≡ value v → ⊥)
-          → (l : Lent) → record { called = x l; globals = g } ≡ intern_all (names_in s) (m₀ l) g₀
-      interned_some x c n l =
-          let is : x l ≡ its l = c l ∙ call-is l in
-          ap (λ (y : Called). record { called = y; globals = g }) is
-          ∙ ended-on l (its l).answer refl (λ v z. n l v (ap (λ (y : Called). y.answer) is ∙ z))
+      pub interned_some : (k : ℕ) (m' : Lent → Machine) → ((l : Lent) → record { answer = refused k; machine = m' l } ≡ call l)
+          → (l : Lent) → record { called = record { answer = refused k; machine = m' l }; globals = g } ≡ intern_all (names_in s) (m₀ l) g₀
+      interned_some k m' c l =
+          let is : record { answer = refused k; machine = m' l } ≡ its l = c l ∙ call-is l in
+          ap (λ (y : Called). record { called = y; globals = g }) is ∙ refused_on l k (sym (ap (λ (y : Called). y.answer) is))

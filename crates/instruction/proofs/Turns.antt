@@ -15,10 +15,13 @@ use Rattle.gc.proofs.Blocks.{some_said, none_said}
 use Rattle.gc.specs.Pages.{Pages, Block, allocated}
 use Rattle.gc.specs.Lent.{page_size, pages_of, numbers_of, fits, outcome, alloc_of}
 use Rattle.gc.proofs.Blocks.{pushed-is}
+use Rattle.gc.specs.declared.AllocType.{AllocType}
+use Rattle.gc.specs.Metadata.{bits_of}
+use Rattle.effects.specs.declared.Stop.{Stop}
+use Rattle.effects.specs.Stops.{number_of_stop}
 use Rattle.effects.specs.declared.Effect.TheVariants as effect
 use Rattle.program.specs.Image.{test, failing}
 use Rattle.instruction.specs.declared.Position.{Position}
-use Rattle.instruction.specs.declared.Place.{Place}
 use Rattle.vm.specs.Core.{Core, used, short, set_reg, set_regs, set_pc, set_frames, set_memory, set_pages, set_bytes}
 use Rattle.vm.specs.Run.{next, stop, provided, forward, addressed, loaded, stored8, returned, block_to, apply, unless, limited}
 use Rattle.vm.specs.Machine.{Lent, Machine, sizes, lend_frames, lend_heap, memory_of, view, with_pages, traced, with_frames, with_regs, laid}
@@ -47,11 +50,11 @@ pub record Reached (g : Gc) (a i : ℕ) : Type 0 where
   pub inside : reaches g.base g.pushed a 8 ≡ true
   pub place : i ≡ a - g.base
 
-reached_by : (b : Bool) (i j : ℕ) → cond b (Place.At j) Place.Outside ≡ Place.At i → (b ≡ true) × (i ≡ j)
+reached_by : (b : Bool) (i j : ℕ) → cond b (std.Some j) std.None ≡ std.Some i → (b ≡ true) × (i ≡ j)
 reached_by true i j e = (refl, cc)
 reached_by false i j e = let z : ◌≡◌ {A = ℕ} 0 1 = cc in absurd (omega arith)
 
-outside_by : (b : Bool) (j : ℕ) → cond b (Place.At j) Place.Outside ≡ Place.Outside → b ≡ false
+outside_by : (b : Bool) (j : ℕ) → cond b (std.Some j) std.None ≡ std.None → b ≡ false
 outside_by true j e = let z : ◌≡◌ {A = ℕ} 0 1 = cc in absurd (omega arith)
 outside_by false j e = refl
 
@@ -68,14 +71,14 @@ both_low a b h = by (leb (2 ^ 48) a) (leb (2 ^ 48) b) refl refl h
     by false false e f h = (leb-false (2 ^ 48) a e, leb-false (2 ^ 48) b f)
 
 module _ (g : Gc) (a : ℕ) where
-  pub reached : (i : ℕ) → place_in g a ≡ Place.At i → Reached g a i
+  pub reached : (i : ℕ) → place_in g a ≡ std.Some i → Reached g a i
   unfolding place_in
   reached i e =
       let q = reached_by _ i (a - g.base) e in
       let b = both (eqb (a % 8) 0) _ q.0 in
       record { aligned = b.0; inside = b.1; place = q.1 }
 
-  pub place_room : (i : ℕ) → place_in g a ≡ Place.At i → i + 8 ≤ g.pushed
+  pub place_room : (i : ℕ) → place_in g a ≡ std.Some i → i + 8 ≤ g.pushed
   unfolding reaches
   place_room i e =
       let r = reached i e in
@@ -84,22 +87,22 @@ module _ (g : Gc) (a : ℕ) where
 
   -- ---- as it is tested: no sum that could pass 2^64 is made
 
-  pub place_high : g.base + g.pushed ≤ 2 ^ 48 → 2 ^ 48 ≤ a → Place.Outside ≡ place_in g a
+  pub place_high : g.base + g.pushed ≤ 2 ^ 48 → 2 ^ 48 ≤ a → std.None ≡ place_in g a
   unfolding place_in reaches
   place_high low h = no (eqb (a % 8) 0) (leb g.base a) (lt-leb (a - g.base + 8) g.pushed (omega arith))
     where
-      no : (p q : Bool) {r : Bool} → r ≡ false → Place.Outside ≡ cond (p && (q && r)) (Place.At (a - g.base)) Place.Outside
+      no : (p q : Bool) {r : Bool} → r ≡ false → std.None ≡ cond (p && (q && r)) (std.Some (a - g.base)) std.None
       no true true e = rw e refl
       no true false e = refl
       no false q e = refl
 
   module _ (at : ℕ) (bound : at < 2 ^ 64) (difference : (at + g.base) % 2 ^ 64 ≡ a) (small : a < 2 ^ 64) (base : g.base < 2 ^ 64) where
-    pub place_past : g.pushed ≤ at → g.pushed ≤ 2 ^ 48 → Place.Outside ≡ place_in g a
+    pub place_past : g.pushed ≤ at → g.pushed ≤ 2 ^ 48 → std.None ≡ place_in g a
     unfolding place_in reaches
     place_past h low = no (eqb (a % 8) 0) (leb g.base a) refl
       where
         no : (p q : Bool) → leb g.base a ≡ q
-            → Place.Outside ≡ cond (p && (q && leb (a - g.base + 8) g.pushed)) (Place.At (a - g.base)) Place.Outside
+            → std.None ≡ cond (p && (q && leb (a - g.base + 8) g.pushed)) (std.Some (a - g.base)) std.None
         no true true e = let k = leb-true g.base a e in rw (lt-leb (a - g.base + 8) g.pushed (omega arith)) refl
         no true false e = refl
         no false q e = refl
@@ -108,7 +111,7 @@ module _ (g : Gc) (a : ℕ) where
       is_at : (a - g.base ≡ at) × (g.base ≤ a)
       is_at = (omega arith, omega arith)
 
-      place_by : (p q : Bool) → eqb (a % 8) 0 ≡ p → ltb g.pushed (at + 8) ≡ q → cond (not p || q) Place.Outside (Place.At at) ≡ place_in g a
+      place_by : (p q : Bool) → eqb (a % 8) 0 ≡ p → ltb g.pushed (at + 8) ≡ q → cond (not p || q) std.None (std.Some at) ≡ place_in g a
       unfolding place_in reaches
       place_by p true e f =
           let k = ltb-true g.pushed (at + 8) f in
@@ -118,7 +121,7 @@ module _ (g : Gc) (a : ℕ) where
             le-leb g.base a is_at.1,
             lt-leb (at + 8) g.pushed k,
           )
-          (elim p as (λ (b : Bool). cond (not b || true) Place.Outside (Place.At at) ≡ cond (b && false) (Place.At at) Place.Outside)
+          (elim p as (λ (b : Bool). cond (not b || true) std.None (std.Some at) ≡ cond (b && false) (std.Some at) std.None)
           [ true ↦ refl | false ↦ refl ])
       place_by p false e f =
           let k = ltb-false g.pushed (at + 8) f in
@@ -128,10 +131,10 @@ module _ (g : Gc) (a : ℕ) where
             le-leb g.base a is_at.1,
             le-leb (at + 8) g.pushed k,
           )
-          (elim p as (λ (b : Bool). cond (not b || false) Place.Outside (Place.At at) ≡ cond (b && true) (Place.At at) Place.Outside)
+          (elim p as (λ (b : Bool). cond (not b || false) std.None (std.Some at) ≡ cond (b && true) (std.Some at) std.None)
           [ true ↦ refl | false ↦ refl ])
 
-      pub place_is : (t : Bool) → (not (eqb (a % 8) 0) || ltb g.pushed (at + 8)) ≡ t → cond t Place.Outside (Place.At at) ≡ place_in g a
+      pub place_is : (t : Bool) → (not (eqb (a % 8) 0) || ltb g.pushed (at + 8)) ≡ t → cond t std.None (std.Some at) ≡ place_in g a
       place_is t e = rw (← e) (place_by _ _ refl refl)
 
 -- ---- instructions
@@ -179,9 +182,9 @@ module _ (s : State) (at : Position) (regs : List ℕ) (l : Lent) (fit : Fitting
   unfolding turn apply set_pc set_regs view
   turn_goto target = goes_on regs target
 
-  pub turn-stop : (e : ℕ) → turn (effect.Stop e) m ≡ stopped e m
+  pub turn-stop : (why : Stop) → turn (effect.Stop why) m ≡ stopped (number_of_stop why) m
   unfolding turn apply limited
-  turn-stop e = stays e
+  turn-stop why = stays (number_of_stop why)
 
   pub turn-halt : turn effect.Halt m ≡ record { how = halts; machine = m }
   unfolding turn apply limited turned
@@ -252,7 +255,7 @@ module _ (s : State) (at : Position) (regs : List ℕ) (l : Lent) (fit : Fitting
     abbrev address : ℕ
     address = base + offset
 
-    module _ (out : place_in at.gc address ≡ Place.Outside) where
+    module _ (out : place_in at.gc address ≡ std.None) where
       not_there : addressed (view m).memory.pages address ≡ false
       unfolding place_in
       not_there = in_pages address ∙ outside_by _ (address - at.gc.base) out
@@ -265,7 +268,7 @@ module _ (s : State) (at : Position) (regs : List ℕ) (l : Lent) (fit : Fitting
       unfolding turn apply limited provided
       turn_store_outside v = rw not_there (stays 6)
 
-    module _ (i : ℕ) (there : place_in at.gc address ≡ Place.At i) where
+    module _ (i : ℕ) (there : place_in at.gc address ≡ std.Some i) where
       is-there : addressed (view m).memory.pages address ≡ true
       is-there = let r = reached at.gc address i there in in_pages address ∙ rw (r.aligned, r.inside) refl
 
@@ -311,9 +314,9 @@ module _ (s : State) (at : Position) (regs : List ℕ) (l : Lent) (fit : Fitting
 
   -- ---- Alloc
 
-  module _ (dst kind n : ℕ) (r : std.Option ℕ) (g : Gc) (x : List ℕ) (e : outcome r g x ≡ alloc_of at.gc kind n heap) where
+  module _ (dst : ℕ) (kind : AllocType) (n : ℕ) (r : std.Option ℕ) (g : Gc) (x : List ℕ) (e : outcome r g x ≡ alloc_of at.gc (bits_of kind) n heap) where
     abbrev b : Block
-    b = allocated page_size kind n (pages_of at.gc heap)
+    b = allocated page_size (bits_of kind) n (pages_of at.gc heap)
 
     abbrev holding : Core
     holding = forward (set_reg dst b.address (set_memory (set_pages b.pages (view m).memory) (view m)))

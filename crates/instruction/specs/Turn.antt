@@ -8,7 +8,8 @@ use Rattle.vm.specs.declared.State.{State}
 use Rattle.instruction.specs.declared.Position.{Position}
 use Rattle.instruction.specs.declared.Turn.{Turn}
 use Rattle.instruction.specs.declared.Turn.TheVariants.{Next, Halt, Stop}
-use Rattle.instruction.specs.declared.Place.{Place}
+use Rattle.std.specs.Prelude as std
+use Rattle.anomaly.specs.Table.{number_of_anomaly}
 use Rattle.vm.specs.Run.{Step, next, halted, stop, apply, limited}
 use Rattle.vm.specs.Machine.{Lent, Machine, sizes, keep_regs, keep_pc, keep_depth, keep_gc, view, laid}
 use Rattle.vm.specs.Told.{machine_of}
@@ -43,8 +44,8 @@ pub record Fitting (at : Position) (l : Lent) : Type 0 where
 -- ---- an instruction
 
 -- the place in the heap of the 8 bytes at an address, if `Load` and `Store` reach them
-unfoldable pub place_in : Gc → ℕ → Place
-place_in g a = cond (a % 8 == 0 && reaches g.base g.pushed a 8) (Place.At (a - g.base)) Place.Outside
+unfoldable pub place_in : Gc → ℕ → std.Option ℕ
+place_in g a = cond (a % 8 == 0 && reaches g.base g.pushed a 8) (std.Some (a - g.base)) std.None
 
 -- how an instruction goes, and the machine that it leaves
 pub data How : Type 0 where
@@ -68,4 +69,4 @@ turn e m = turned m (limited (sizes m.lent) (view m) (apply e (view m)))
 abbrev pub turn_of : State → Position → List ℕ → Lent → Turn → Turned
 turn_of s at regs l (Next to) = record { how = goes; machine = machine_at s to regs l }
 turn_of s at regs l Halt = record { how = halts; machine = machine_at s at regs l }
-turn_of s at regs l (Stop e) = record { how = stops e; machine = machine_at s at regs l }
+turn_of s at regs l (Stop why) = record { how = stops (number_of_anomaly why); machine = machine_at s at regs l }

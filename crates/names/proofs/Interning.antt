@@ -10,10 +10,7 @@ use lib.Seq.{length-take-le}
 use lib.Dec.{leb}
 use borrow.Author.Tests.{leb-true, le-leb, lt-leb, le-ltb}
 use Rattle.memory.proofs.Over.{over-take, take-over, length_over}
-use Rattle.anomaly.specs.declared.Refusal.{Refusal}
-use Rattle.anomaly.specs.Table.{number_of_refusal}
 use Rattle.str_table.specs.declared.StrTable.{StrTable}
-use Rattle.std.specs.Prelude as std
 use Rattle.string.specs.Hash.{hash_of}
 use Rattle.string.specs.Payload.{holds, small_name}
 use Rattle.str_table.specs.Table.{lookup, found_value, placed}
@@ -33,9 +30,8 @@ use Rattle.vm.specs.Names.{Given, filled, tabled, fresh, known, interned}
 use Rattle.vm.specs.Machine.{Lent, Machine, sizes, lend_heap, lend_names, memory_of, view, Called, value, host, intern, intern_small, with_pages, with_names, hosted}
 use Rattle.vm.specs.Machine.{host_leaves, granted, host_call, act, small_ok, name_tests, found, tests_by, tests}
 use Rattle.vm.specs.Machine.{perform}
-use Rattle.names.specs.declared.interner.Tested.{Tested}
 use Rattle.vm.specs.Told.{machine_of, holding}
-use Rattle.names.specs.Interned.{written, name_block, Belong, tested_of}
+use Rattle.names.specs.Interned.{written, name_block, Belong, names_of}
 use Rattle.vm.proofs.Performed.{refuses, refused-is, acted_is}
 use Rattle.vm.proofs.Fits.{short-names, view-within, view-fits}
 
@@ -75,7 +71,7 @@ module _ (s : State) (l : Lent) (name : List ℕ) where
   abbrev spare : List ℕ
   spare = l.spare
 
-  module _ (b : Belong s.gc s.strings heap slots spare) where
+  module _ (b : Belong (names_of s) heap slots spare) where
     long : length (take s.strings.active slots) ≡ s.strings.active
     long = length-take-le s.strings.active slots b.active
 
@@ -111,12 +107,12 @@ module _ (s : State) (l : Lent) (name : List ℕ) where
       fresh_18 h = rw (fresh-short, lt-leb room (length slots) h) refl
 
       module _ (h : room ≤ length slots) (r : std.Option ℕ) (to : Gc) (x : List ℕ) (e : outcome r to x ≡ granted_in made s.gc heap) where
-        pub fresh_2 : r ≡ std.None → refuses 2 (machine_of s (lend_heap x l))
+        pub fresh_2 : r ≡ std.None → refuses 2 (machine_of (holding s to s.strings) (lend_heap x l))
             ≡ host_call (intern name) machine (fresh name (memory_of machine))
         unfolding host_call granted failing fits
         fresh_2 i =
             let no = none_said (fits made.pages (length heap)) made s.gc heap x r to i e in
-            rw (fresh-short, le-leb room (length slots) h, no.0, no.2) refl
+            rw (fresh-short, le-leb room (length slots) h, no.0, no.1, no.2) refl
 
         module _ (a : ℕ) (i : r ≡ std.Some a) where
           pub fresh-done : (t : StrTable) (y z : List ℕ) → inserted t y z ≡ insert_of to.base (take to.pushed x) hash a s.strings slots spare
@@ -190,10 +186,9 @@ module _ (s : State) (l : Lent) (name : List ℕ) where
 
   -- ---- the tests in turn
 
-  pub intern-refused : (why : Refusal) → tested_of (Tested.Failed why) ≡ failing (name_tests (found s machine.lent))
-      → refuses (number_of_refusal why) machine ≡ perform (host (intern name)) machine
-  unfolding tests tests_by tested_of
-  intern-refused why f = refused-is (host (intern name)) machine _ (sym f)
+  pub intern-refused : (e : ℕ) → some e ≡ failing (name_tests (found s machine.lent)) → refuses e machine ≡ perform (host (intern name)) machine
+  unfolding tests tests_by
+  intern-refused e f = refused-is (host (intern name)) machine _ (sym f)
 
   pub intern-told : none ≡ failing (name_tests (found s machine.lent)) → (x : Called)
       → x ≡ host_call (intern name) machine (interned name (memory_of machine)) → x ≡ perform (host (intern name)) machine
@@ -212,11 +207,10 @@ module _ (s : State) (l : Lent) (n w : ℕ) where
   as_name none g = refl
   as_name (some e) g = refl
 
-  module _ (why : Refusal) where
-    pub small_refused : tested_of (Tested.Failed why) ≡ failing (name_tests (found s small_machine.lent))
-        → refuses (number_of_refusal why) small_machine ≡ perform (host (intern_small n w)) small_machine
-    unfolding tests tests_by tested_of
-    small_refused f = refused-is (host (intern_small n w)) small_machine _ (failing-here (name_tests (found s small_machine.lent)) _ _ (sym f))
+  pub small_refused : (e : ℕ) → some e ≡ failing (name_tests (found s small_machine.lent))
+      → refuses e small_machine ≡ perform (host (intern_small n w)) small_machine
+  unfolding tests tests_by
+  small_refused e f = refused-is (host (intern_small n w)) small_machine _ (failing-here (name_tests (found s small_machine.lent)) _ _ (sym f))
 
   module _ (f : none ≡ failing (name_tests (found s small_machine.lent))) where
     small_tests : failing (tests (host (intern_small n w)) s small_machine.lent) ≡ failing (test (small_ok n w) 17 ∷ [])

@@ -24,7 +24,7 @@ tested alignment n h = h
 tested anyByte n h = ltb-true n 256 h
 tested anyNumber n h = ltb-true n (2 ^ 32) h
 
-parts_in : (one two three number : Field) (p : Parts) → passes one two three number p ≡ true → In one two three number p
+pub parts_in : (one two three number : Field) (p : Parts) → passes one two three number p ≡ true → In one two three number p
 parts_in one two three number p h =
     let all = both (holds one p.one && holds two p.two && holds three p.three) (holds number p.number) h in
     let bytes = both (holds one p.one && holds two p.two) (holds three p.three) all.0 in

@@ -4,6 +4,8 @@ use Rattle.anomaly.specs.declared.Refusal.{Refusal}
 use Rattle.anomaly.specs.declared.Refusal.TheVariants.{Opcode, Operand, Target, Index}
 use Rattle.op.specs.Decode.{decode_of, decoded_by, rows}
 use Rattle.op.specs.Reach.{Checked, check_of}
+use Rattle.gc.specs.declared.AllocType.TheVariants.{String}
+use Rattle.op.specs.declared.Keys.TheVariants.{Int}
 use Rattle.op.specs.declared.Op.{Op}
 use Rattle.op.specs.declared.Op.TheVariants as op
 use Rattle.op.specs.declared.Counts.{Counts}
@@ -20,11 +22,11 @@ words =
     -- JmpSNe r1, r5, 0x1234
     (0x0000000512340123, Ok (op.JmpSNe 1 5 0x1234)) ∷
     -- Switch on Int, r2, table 3
-    (0x0000000300020124, Ok (op.Switch 1 2 3)) ∷
+    (0x0000000300020124, Ok (op.Switch Int 2 3)) ∷
     -- Lookup r4, r2, on Int, table 3
-    (0x0000000301020425, Ok (op.Lookup 1 4 2 3)) ∷
+    (0x0000000301020425, Ok (op.Lookup Int 4 2 3)) ∷
     -- Alloc r4, String, alignment 8, size 32
-    (0x0000002008030435, Ok (op.Alloc 4 3 32 8)) ∷
+    (0x0000002008030435, Ok (op.Alloc 4 String 32 8)) ∷
     -- Store r2 at r1 + 16
     (0x0000001000020136, Ok (op.Store 1 16 2)) ∷
     -- Sys

@@ -2,7 +2,7 @@
 use Rattle.std.specs.Prelude.{ℕ, Bool, cond, List, [], ◌∷◌, slice_index_or, Result, Ok, Err}
 use Rattle.anomaly.specs.declared.Refusal.{Refusal}
 use Rattle.anomaly.specs.declared.Refusal.TheVariants.{Opcode, Operand}
-use Rattle.op.specs.Layout.{Parts, parts_of, passes, Field, unused, register, switchKind, allocKind, alignment, anyByte, anyNumber}
+use Rattle.op.specs.Layout.{Parts, parts_of, passes, keys_of, kind_of, Field, unused, register, switchKind, allocKind, alignment, anyByte, anyNumber}
 use Rattle.op.specs.Layout.{Reach, nothing, jump, function, global, switchTable, lookupTable}
 use Rattle.op.specs.declared.Op.{Op}
 use Rattle.op.specs.declared.Op.TheVariants as op
@@ -55,8 +55,8 @@ rows =
     row register anyByte anyByte anyNumber jump (λ p. op.JmpNeI p.one p.signed p.target) ∷
     row register anyByte anyByte register jump (λ p. op.JmpSEq p.one p.number p.target) ∷
     row register anyByte anyByte register jump (λ p. op.JmpSNe p.one p.number p.target) ∷
-    row switchKind register unused anyNumber switchTable (λ p. op.Switch p.one p.two p.number) ∷
-    row register register switchKind anyNumber lookupTable (λ p. op.Lookup p.three p.one p.two p.number) ∷
+    row switchKind register unused anyNumber switchTable (λ p. op.Switch (keys_of p.one) p.two p.number) ∷
+    row register register switchKind anyNumber lookupTable (λ p. op.Lookup (keys_of p.three) p.one p.two p.number) ∷
     row unused unused unused anyNumber function (λ p. op.Tail p.number) ∷
     row unused unused unused anyNumber function (λ p. op.Call p.number) ∷
     -- 40: Sys, Native, Push to Pop3, StoreSlot and LoadSlot are not carried
@@ -74,7 +74,7 @@ rows =
     row register register unused unused nothing (λ p. op.CastToInt p.one p.two) ∷
     row register register unused unused nothing (λ p. op.CastToDouble p.one p.two) ∷
     row register register unused unused nothing (λ p. op.CastToBool p.one p.two) ∷
-    row register allocKind alignment anyNumber nothing (λ p. op.Alloc p.one p.two p.number p.three) ∷
+    row register allocKind alignment anyNumber nothing (λ p. op.Alloc p.one (kind_of p.two) p.number p.three) ∷
     row register register unused anyNumber nothing (λ p. op.Store p.one p.number p.two) ∷
     row register register unused anyNumber nothing (λ p. op.Load p.one p.two p.number) ∷
     row register register unused anyNumber nothing (λ p. op.AddrOf p.one p.two p.number) ∷

@@ -1,5 +1,9 @@
 -- Document 01, 'Instruction and image': the parts of a word, what may stand in them, and what they may name. Definitions only.
 use Rattle.std.specs.Prelude.{ℕ, ◌+◌, ◌-◌, ◌/◌, ◌%◌, ◌^◌, Bool, cond, ◌&&◌, ◌||◌, ◌==◌, nat_lt}
+use Rattle.gc.specs.declared.AllocType.{AllocType}
+use Rattle.gc.specs.declared.AllocType.TheVariants.{Record, Array, Option, String}
+use Rattle.op.specs.declared.Keys.{Keys}
+use Rattle.op.specs.declared.Keys.TheVariants.{Str, Int}
 
 -- the parts of a word: bytes 0 to 3, bytes 2 and 3 together, and bytes 4 to 7, as they stand and as a signed number
 pub record Parts : Type 0 where
@@ -52,6 +56,14 @@ holds allocKind n = nat_lt n 4
 holds alignment n = is_alignment n
 holds anyByte n = nat_lt n 256
 holds anyNumber n = nat_lt n (2 ^ 32)
+
+-- 'Str is 0, Int 1'
+abbrev pub keys_of : ℕ → Keys
+keys_of n = cond (n == 0) Str Int
+
+-- 'for `Alloc` Record 0, Array 1, Option 2, String 3'
+abbrev pub kind_of : ℕ → AllocType
+kind_of n = cond (n == 0) Record (cond (n == 1) Array (cond (n == 2) Option String))
 
 -- bytes 1, 2 and 3 and the number in bytes 4 to 7 hold what they may
 abbrev pub passes : Field → Field → Field → Field → Parts → Bool

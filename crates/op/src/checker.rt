@@ -105,11 +105,7 @@ fn aligned(align: usize) -> Result<(), Refusal>
 fn inside(at: usize, count: usize, refusal: Refusal) -> Result<(), Refusal>
     ensures { result ≡ inside_of at count refusal }
 {
-    if at < count {
-        Ok(())
-    } else {
-        Err(refusal)
-    }
+    if at < count { Ok(()) } else { Err(refusal) }
 }
 
 // What its mask leaves of a word: an alignment, or whether what it names is below its count.

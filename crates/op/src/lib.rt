@@ -28,18 +28,24 @@
 #![tactic(auto)]
 
 mod checker;
+pub mod format;
+mod register;
 pub mod word;
 
 pub use checker::check;
+use gc::AllocType;
+pub use register::{REGISTER_COUNT, Reg};
 pub use word::is_alignment;
-
-pub const REGISTER_COUNT: usize = 32;
 
 // The opcodes from 0 on, with those that are not carried.
 const OPCODES: usize = 61;
 
-// The number of a register. All fields of `Op` are 8 bytes wide: with narrower ones the loop of a run is slower.
-pub type Reg = usize;
+// What the keys of a table are: strings, whose addresses lie 4 apart, or integers.
+#[derive(Clone, Copy, Debug, PartialEq, Eq)]
+pub enum Keys {
+    Str,
+    Int,
+}
 
 #[derive(Clone, Copy, Debug, PartialEq, Eq)]
 pub enum Op {
@@ -254,13 +260,13 @@ pub enum Op {
     },
     // pc = switches[table].targets[slot of r[subject]], or the next where it has no such slot
     Switch {
-        kind: u64,
+        kind: Keys,
         subject: Reg,
         table: usize,
     },
     // r[dst] = lookups[table].values[slot of r[subject]], or its default where it has no such slot
     Lookup {
-        kind: u64,
+        kind: Keys,
         dst: Reg,
         subject: Reg,
         table: usize,
@@ -291,7 +297,7 @@ pub enum Op {
     // r[dst] = the address of a new block
     Alloc {
         dst: Reg,
-        kind: u64,
+        kind: AllocType,
         size: u64,
         align: u64,
     },
@@ -328,8 +334,6 @@ pub enum Op {
 impl Op {
     // The opcode that code ends with.
     pub const HALT: u64 = 59;
-    // The kind of a Switch or a Lookup whose keys are strings.
-    pub const STR: u64 = 0;
 }
 
 // How many words, globals and tables of each kind an image has.

@@ -1,20 +1,12 @@
 -- What a run and a reply come to in the text. Assumes nothing.
 use mathlib.Core.Path.{◌≡◌, refl}
-use mathlib.Core.List.{[]}
 use Rattle.anomaly.specs.declared.End.{End}
 use Rattle.anomaly.specs.declared.Refusal.{Refusal}
 use Rattle.anomaly.specs.Table.{number_of_end, pc_of_end, steps_of_end}
 use Rattle.report.specs.Report.{report_of}
 use Rattle.vm.specs.declared.State.{State}
-use Rattle.vm.specs.declared.Reply.{Reply}
-use Rattle.vm.specs.Told.{answer_of, said_of}
-use Rattle.outcome.specs.Outcome.{summary_of, reply_text, run_text}
-
-pub nothing_said : (r : Reply) → ((why : Refusal) → r ≡ Reply.Refused why → ⊥) → reply_text (said_of r) ≡ []
-unfolding said_of reply_text
-nothing_said (Reply.Value v) is = refl
-nothing_said Reply.Done is = refl
-nothing_said (Reply.Refused why) is = absurd (is why refl)
+use Rattle.vm.specs.Told.{answer_of}
+use Rattle.outcome.specs.Outcome.{summary_of, run_text}
 
 pub run_reported : (end : End) → ((why : Refusal) → end ≡ End.Refused why → ⊥) → (s : State)
     → run_text (answer_of end) s ≡ report_of (summary_of (number_of_end end) (pc_of_end end) (steps_of_end end) s) s.regs

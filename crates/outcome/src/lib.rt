@@ -1,13 +1,13 @@
-// What is written of a run, or of a reply: the report, or the number of a refusal.
+// What is written of a run: the report, or the number of a refusal.
 #![tactic(auto)]
 
 ghost use Rattle.std.specs.Prelude.{◌≡◌};
-ghost use Rattle.vm.specs.Told.{answer_of, said_of};
-ghost use Rattle.outcome.specs.Outcome.{reply_text, run_text};
+ghost use Rattle.vm.specs.Told.{answer_of};
+ghost use Rattle.outcome.specs.Outcome.{run_text};
 
 use anomaly::End;
 use report::{Summary, Text, refusal_text, report_text};
-use vm::{Reply, State};
+use vm::State;
 
 // The report of a run, or the number by which it was refused.
 pub fn run_text(end: End, state: &State) -> Text
@@ -26,14 +26,4 @@ pub fn run_text(end: End, state: &State) -> Text
         strings: state.strings.len,
     };
     report_text(&summary, &state.regs)
-}
-
-// The number of a refusal; of another reply nothing.
-pub fn reply_text(reply: Reply) -> Text
-    ensures { result.bytes ≡ reply_text (said_of reply) }
-{
-    let Reply::Refused(why) = reply else {
-        return Text::new();
-    };
-    refusal_text(why)
 }

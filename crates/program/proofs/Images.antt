@@ -8,15 +8,17 @@ use native.Mathlib.Omega.{arith}
 use native.Mathlib.Numerals.{add-one}
 use lib.ListN.{length, get_or, drop, drop_of_length-le}
 use lib.Seq.{drop-cons}
-use lib.Dec.{eqb, ltb}
+use lib.Dec.{eqb, ltb, leb}
 use Rattle.std.specs.List.{list_all}
-use borrow.Author.Tests.{le-leb, lt-leb}
+use borrow.Author.Tests.{le-leb, lt-leb, eqb-true}
 use Rattle.std.specs.Prelude.{Ok, Err}
 use Rattle.anomaly.specs.declared.Refusal.{Refusal}
 use Rattle.anomaly.specs.Table.{number_of_refusal}
 use Rattle.op.specs.declared.Counts.{Counts}
 use Rattle.op.specs.Reach.{check_of}
-use Rattle.program.specs.Image.{Image, counts, rising, image_ok, ends_in_halt, below, word_test, word_tests, image_tests, failing}
+use Rattle.memory.proofs.Tests.{both}
+use Rattle.program.proofs.Tests.{failing-cons}
+use Rattle.program.specs.Image.{Image, test, counts, rising, tables_ok, image_ok, ends_in_halt, below, word_test, word_tests, image_tests, failing}
 
 -- a pass that has come to i
 module _ (A : Type 0) (f : List ℕ → A) (xs : List ℕ) (i : ℕ) (whole : A) (g : f (drop i xs) ≡ whole) where
@@ -93,3 +95,15 @@ module _ (lent : Bool) (im : Image) where
           → failing (word_tests (counts im) im.code) ≡ failing (image_tests lent im)
       unfolding failing image_tests
       word_by_word e = rw (size, halts, e, failing) refl
+
+-- the tables of an image that passes its tests
+pub passed_tables : (im : Image) → failing (image_tests true im) ≡ none
+    → (tables_ok im.switches ≡ true) × (tables_ok im.lookups ≡ true) × (length im.defaults ≡ length im.lookups.firsts)
+unfolding image_tests image_ok
+passed_tables im p =
+    let size = (failing-cons (test (image_ok im) 10) _ p).0 in
+    let sections = (both (leb (length im.code) 65536) _ size).1 in
+    let tables = (both (leb (length im.globals) 4096) _ sections).1 in
+    let switches = both (tables_ok im.switches) _ tables in
+    let lookups = both (tables_ok im.lookups) _ switches.1 in
+    (switches.0, lookups.0, eqb-true _ _ lookups.1)

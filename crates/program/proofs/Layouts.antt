@@ -1,5 +1,5 @@
 -- Words cut into sections: what ends that go up say, and how long the sections are. Assumes nothing.
-use mathlib.Core.Path.{◌≡◌, refl, sym, ap, ◌∙◌}
+use mathlib.Core.Path.{◌≡◌, refl, sym, ◌∙◌}
 use Prim.Native.Nat.{ℕ, zero, suc, ◌+◌, ◌-◌, ◌≤◌, ◌<◌}
 use mathlib.Core.Bool.{Bool, true, false, ◌&&◌, and-false, and_comm}
 use mathlib.Core.Option.{none, some}
@@ -11,10 +11,9 @@ use lib.Seq.{get_or-take, length-take-le}
 use lib.Dec.{leb, eqb}
 use borrow.Author.Tests.{leb-true, eqb-true}
 use Rattle.memory.proofs.Tests.{both}
-use Rattle.op.specs.declared.Counts.{Counts}
-use Rattle.program.specs.Image.{counts, rising, tables_fit, tables_ok, image_ok, word_tests, image_tests, failing}
+use Rattle.program.specs.Image.{Image, rising, tables_fit, tables_ok, image_ok, image_tests, failing}
 use Rattle.program.specs.Words.{between, fits, cut, image_in, Ordered}
-use Rattle.program.proofs.Tables.{rising_to, rising_at, rising-on}
+use Rattle.program.proofs.Entries.{rising_to, rising_at, rising-on}
 use Rattle.program.proofs.Images.{refused_10}
 
 pub length-between : (a e : ℕ) (ws : List ℕ) → e ≤ length ws → length (between a e ws) ≡ e - a
@@ -120,25 +119,57 @@ outside false b c d = refl
 outside true false c d = refl
 outside true true c d = refl
 
-module _ (ws : List ℕ) (o : Ordered ws) where
+module _ (im : Image) where
   abbrev switches_fit : Bool
-  switches_fit = tables_fit (get_or ws 2 0 - get_or ws 1 0) (get_or ws 3 0 - get_or ws 2 0) (get_or ws 4 0 - get_or ws 3 0)
+  switches_fit = tables_fit (length im.switches.firsts) (length im.switches.ends) (length im.switches.entries)
 
   abbrev lookups_fit : Bool
-  lookups_fit = tables_fit (get_or ws 5 0 - get_or ws 4 0) (get_or ws 6 0 - get_or ws 5 0) (get_or ws 7 0 - get_or ws 6 0)
+  lookups_fit = tables_fit (length im.lookups.firsts) (length im.lookups.ends) (length im.lookups.entries)
 
   abbrev sized : Bool
   sized =
-      leb (get_or ws 0 0 - 9) 65536
-      && (leb (get_or ws 1 0 - get_or ws 0 0) 4096 && (switches_fit && (lookups_fit && eqb (get_or ws 8 0 - get_or ws 7 0) (get_or ws 5 0 - get_or ws 4 0))))
+      leb (length im.code) 65536
+      && (leb (length im.globals) 4096 && (switches_fit && (lookups_fit && eqb (length im.defaults) (length im.lookups.firsts))))
 
   abbrev risen : Bool
-  risen =
-      rising 0 (cut ws).switches.ends (get_or ws 4 0 - get_or ws 3 0) && rising 0 (cut ws).lookups.ends (get_or ws 7 0 - get_or ws 6 0)
+  risen = rising 0 im.switches.ends (length im.switches.entries) && rising 0 im.lookups.ends (length im.lookups.entries)
 
-  pub sizes_then_ends : image_ok (cut ws) ≡ (sized && risen)
+  pub sizes_then_ends : image_ok im ≡ (sized && risen)
   unfolding image_ok tables_ok
-  sizes_then_ends = rw (
+  sizes_then_ends =
+      rw (regroup switches_fit _ lookups_fit _ _)
+      (outside (leb (length im.code) 65536) (leb (length im.globals) 4096)
+      (switches_fit && (lookups_fit && eqb (length im.defaults) (length im.lookups.firsts))) risen)
+
+  -- as the code tests it
+  module _ (switches lookups : Bool) (s : switches ≡ switches_fit) (l : lookups ≡ lookups_fit) where
+    abbrev tested : Bool
+    tested =
+        leb (length im.code) 65536
+        && (leb (length im.globals) 4096 && (switches && (lookups && eqb (length im.defaults) (length im.lookups.firsts))))
+
+    as_tested : {b : Bool} → tested ≡ b → sized ≡ b
+    as_tested e = rw (← s, ← l) e
+
+    pub sizes_fail : tested ≡ false → false ≡ image_ok im
+    sizes_fail e = sym (sizes_then_ends ∙ rw (as_tested e) refl)
+
+    pub ends_decide : (u v : Bool) → tested ≡ true → u ≡ rising 0 im.switches.ends (length im.switches.entries)
+        → v ≡ rising 0 im.lookups.ends (length im.lookups.entries) → (u && v) ≡ image_ok im
+    ends_decide u v e first second = rw (first, second) (sym (sizes_then_ends ∙ rw (as_tested e) refl))
+
+module _ (ws : List ℕ) (o : Ordered ws) where
+  -- the sizes of the sections, by their ends
+  abbrev lengths_fit : Bool
+  lengths_fit =
+      leb (get_or ws 0 0 - 9) 65536
+      && (leb (get_or ws 1 0 - get_or ws 0 0) 4096
+      && (tables_fit (get_or ws 2 0 - get_or ws 1 0) (get_or ws 3 0 - get_or ws 2 0) (get_or ws 4 0 - get_or ws 3 0)
+      && (tables_fit (get_or ws 5 0 - get_or ws 4 0) (get_or ws 6 0 - get_or ws 5 0) (get_or ws 7 0 - get_or ws 6 0)
+      && eqb (get_or ws 8 0 - get_or ws 7 0) (get_or ws 5 0 - get_or ws 4 0))))
+
+  lengths_are : sized (cut ws) ≡ lengths_fit
+  lengths_are = rw (
     length-between 9 (get_or ws 0 0) ws (omega arith),
     length-between (get_or ws 0 0) (get_or ws 1 0) ws (omega arith),
     length-between (get_or ws 1 0) (get_or ws 2 0) ws (omega arith),
@@ -148,34 +179,16 @@ module _ (ws : List ℕ) (o : Ordered ws) where
     length-between (get_or ws 5 0) (get_or ws 6 0) ws (omega arith),
     length-between (get_or ws 6 0) (get_or ws 7 0) ws (omega arith),
     length-between (get_or ws 7 0) (get_or ws 8 0) ws (omega arith),
-    regroup switches_fit _ lookups_fit _ _,
-  ) (outside (leb (get_or ws 0 0 - 9) 65536) (leb (get_or ws 1 0 - get_or ws 0 0) 4096)
-      (switches_fit && (lookups_fit && eqb (get_or ws 8 0 - get_or ws 7 0) (get_or ws 5 0 - get_or ws 4 0))) risen)
-
-  -- as the code tests it
-  module _ (switches lookups : Bool) (s : switches ≡ switches_fit) (l : lookups ≡ lookups_fit) where
-    abbrev tested : Bool
-    tested =
-        leb (get_or ws 0 0 - 9) 65536
-        && (leb (get_or ws 1 0 - get_or ws 0 0) 4096 && (switches && (lookups && eqb (get_or ws 8 0 - get_or ws 7 0) (get_or ws 5 0 - get_or ws 4 0))))
-
-    as_tested : {b : Bool} → tested ≡ b → sized ≡ b
-    as_tested e = rw (← s, ← l) e
-
-    pub sizes_fail : tested ≡ false → false ≡ image_ok (cut ws)
-    sizes_fail e = sym (sizes_then_ends ∙ rw (as_tested e) refl)
-
-    pub ends_decide : (u v : Bool) → tested ≡ true → u ≡ rising 0 (cut ws).switches.ends (get_or ws 4 0 - get_or ws 3 0)
-        → v ≡ rising 0 (cut ws).lookups.ends (get_or ws 7 0 - get_or ws 6 0) → (u && v) ≡ image_ok (cut ws)
-    ends_decide u v e first second = rw (first, second) (sym (sizes_then_ends ∙ rw (as_tested e) refl))
+  ) refl
 
   -- no section too long: not too many words
-  longest : sized ≡ true → get_or ws 8 0 ≤ 79113
-  longest s =
+  longest : sized (cut ws) ≡ true → get_or ws 8 0 ≤ 79113
+  longest sizes =
+      let s = sym lengths_are ∙ sizes in
       let code = both (leb (get_or ws 0 0 - 9) 65536) _ s in
       let globals = both (leb (get_or ws 1 0 - get_or ws 0 0) 4096) _ code.1 in
-      let switches = both switches_fit _ globals.1 in
-      let lookups = both lookups_fit _ switches.1 in
+      let switches = both (tables_fit (get_or ws 2 0 - get_or ws 1 0) (get_or ws 3 0 - get_or ws 2 0) (get_or ws 4 0 - get_or ws 3 0)) _ globals.1 in
+      let lookups = both (tables_fit (get_or ws 5 0 - get_or ws 4 0) (get_or ws 6 0 - get_or ws 5 0) (get_or ws 7 0 - get_or ws 6 0)) _ switches.1 in
       let firsts = both (leb (get_or ws 2 0 - get_or ws 1 0) 256) _ switches.0 in
       let ends = both (eqb (get_or ws 3 0 - get_or ws 2 0) _) _ firsts.1 in
       let firsts' = both (leb (get_or ws 5 0 - get_or ws 4 0) 256) _ lookups.0 in
@@ -193,25 +206,6 @@ module _ (ws : List ℕ) (o : Ordered ws) where
       let w₈ = up_to {n = 256} o.8 (rw (eqb-true (get_or ws 8 0 - get_or ws 7 0) _ lookups.1) few') in
       omega arith
 
-  abbrev counted : Counts
-  counted = record {
-    code = length (cut ws).code;
-    globals = get_or ws 1 0 - get_or ws 0 0;
-    switches = get_or ws 2 0 - get_or ws 1 0;
-    lookups = get_or ws 5 0 - get_or ws 4 0;
-  }
-
-  counts_by : counted ≡ counts (cut ws)
-  unfolding counts
-  counts_by = rw (
-    length-between (get_or ws 0 0) (get_or ws 1 0) ws (omega arith),
-    length-between (get_or ws 1 0) (get_or ws 2 0) ws (omega arith),
-    length-between (get_or ws 4 0) (get_or ws 5 0) ws (omega arith),
-  ) refl
-
-  pub words_by : failing (word_tests counted (cut ws).code) ≡ failing (word_tests (counts (cut ws)) (cut ws).code)
-  words_by = ap (λ (n : Counts). failing (word_tests n (cut ws).code)) counts_by
-
 -- ---- an image of more words than its sections may have
 
 module _ (ws : List ℕ) (l : 79113 < length ws) where
@@ -221,7 +215,7 @@ module _ (ws : List ℕ) (l : 79113 < length ws) where
       -- its sections are not all as long as they may be
       unsized : (f : fits ws ≡ true) (b : Bool) → image_ok (cut ws) ≡ b → b ≡ false
       unsized f true e =
-          let s = (both (sized ws (ordered ws f)) _ (sym (sizes_then_ends ws (ordered ws f)) ∙ e)).0 in
+          let s = (both (sized (cut ws)) _ (sym (sizes_then_ends (cut ws)) ∙ e)).0 in
           let k = longest ws (ordered ws f) s in
           absurd (omega (arith, all_words ws f))
       unsized f false e = refl

@@ -1,5 +1,8 @@
 -- An image as it is lent: code, globals and tables, and what the loader and every run refuse of it. Definitions only.
-use Rattle.std.specs.Prelude.{ℕ, zero, suc, ◌-◌, ◌%◌, Bool, true, false, ◌&&◌, List, [], ◌∷◌, length, get_or, leb, ltb, eqb, Result, Ok, Err}
+use Rattle.std.specs.Prelude.{ℕ, zero, suc, ◌-◌, ◌%◌, Bool, true, false, ◌&&◌, List, [], ◌∷◌, length, get_or, leb, ltb, eqb, Result, Ok, Err, slice_index, ◌≤◌, ◌<◌, ◌≡◌}
+use Rattle.std.specs.Prelude as std
+use Rattle.std.specs.Option.{MatchOption}
+use Rattle.std.specs.Borrow.{Bor}
 use Rattle.std.proofs.Math.Option.{Option, none, some}
 use Rattle.memory.specs.Lists.{part}
 use Rattle.anomaly.specs.declared.Refusal.{Refusal}
@@ -40,6 +43,11 @@ start_of ends (suc k) = get_or ends k 0
 
 unfoldable pub entries_of : Tables → ℕ → List ℕ
 entries_of t k = part (start_of t.ends k) (get_or t.ends k 0 - start_of t.ends k) t.entries
+
+-- the first key of table k, and its entries; or that there is none
+abbrev pub IsTable : Tables → ℕ → std.Option (ℕ × Bor (List ℕ)) → Type 0
+IsTable t k r =
+    MatchOption r (length t.firsts ≤ k) (λ x. (k < length t.firsts) × (x.0 ≡ slice_index t.firsts k) × (x.1.now ≡ entries_of t k))
 
 unfoldable pub counts : Image → Counts
 counts im = record {

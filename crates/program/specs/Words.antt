@@ -1,6 +1,9 @@
 -- An image as it is lent, in words: the ends of nine sections, then the sections in a row. Definitions only.
 use Rattle.std.specs.Prelude.{ℕ, ◌+◌, ◌-◌, ◌≤◌, ◌≡◌, Bool, true, cond, List, [], ◌∷◌, length, get_or, take, drop}
-use Rattle.program.specs.Image.{Image, tables_of, image_of, rising, tables_ok}
+use Rattle.std.specs.Prelude as std
+use Rattle.std.specs.Option.{MatchOption}
+use Rattle.std.proofs.Math.Option.{some}
+use Rattle.program.specs.Image.{Image, tables_of, image_of, rising, image_tests, failing}
 
 -- the words from a up to e
 abbrev pub between : ℕ → ℕ → List ℕ → List ℕ
@@ -35,9 +38,6 @@ Ordered ws =
     × (get_or ws 4 0 ≤ get_or ws 5 0) × (get_or ws 5 0 ≤ get_or ws 6 0) × (get_or ws 6 0 ≤ get_or ws 7 0) × (get_or ws 7 0 ≤ get_or ws 8 0)
     × (get_or ws 8 0 ≤ length ws)
 
--- and of tables that are as they have to be
-pub record Readable (ws : List ℕ) : Type 0 where
-  pub order : Ordered ws
-  pub switches : tables_ok (cut ws).switches ≡ true
-  pub lookups : tables_ok (cut ws).lookups ≡ true
-  pub defaults : length (cut ws).defaults ≡ length (cut ws).lookups.firsts
+-- the sections that the code cuts, of words that are as many as they may be
+abbrev pub Cuts : List ℕ → std.Option Image → Type 0
+Cuts ws r = MatchOption r (failing (image_tests true (image_in ws)) ≡ some 10) (λ im. (fits ws ≡ true) × (im ≡ cut ws))

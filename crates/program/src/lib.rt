@@ -1,7 +1,10 @@
 // What a machine is lent to run: an image, and what is refused of it.
 #![tactic(auto)]
 
+mod image;
 pub mod loader;
+
+pub use image::{Image, Tables};
 
 // The ends of an image's sections, before the first of them: code, globals, of the `Switch` tables firsts, ends and entries, the same of `Lookup`,
 // defaults.

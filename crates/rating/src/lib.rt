@@ -3,37 +3,17 @@
 
 ghost use Rattle.std.specs.Prelude.{◌≡◌, true, ◌≤◌, ◌<◌, ◌^◌, length};
 ghost use Rattle.text.specs.Text.{text_ok};
-ghost use Rattle.vm.specs.Machine.{Lent, lend_run, start};
-ghost use Rattle.vm.specs.Told.{lent_of, machine_of, said_of};
-ghost use Rattle.program.specs.Words.{image_in};
+ghost use Rattle.vm.specs.Machine.{start};
+ghost use Rattle.vm.specs.Told.{lent_of};
 ghost use Rattle.image_words.specs.Said.{image_said};
 ghost use Rattle.image_words.specs.Joined.{joined};
-ghost use Rattle.rating.specs.Rated.{lent_for, ready_text, started_text};
+ghost use Rattle.rating.specs.Rated.{lent_for, started_text};
 
 use anomaly::Steps;
-use outcome::{reply_text, run_text};
-use report::Text;
+use outcome::run_text;
+use report::{Text, refusal_text};
 use text::Head;
-use vm::{Called, Reply, start};
-
-// What comes of the names: if all are there, the run and its report.
-fn named_text(
-    named: Called,
-    budget: Steps,
-    words: &[u64],
-    frames: &mut [u64],
-    heap: &mut [u8],
-) -> Text
-    ensures { (l : Lent)
-        → result.bytes ≡ ready_text (said_of named.reply) (image_in words.now) budget
-        (machine_of named.state (lend_run frames.old heap.old l)) }
-{
-    let Reply::Done = named.reply else {
-        return reply_text(named.reply);
-    };
-    let ran = run::run(named.state, budget, words, frames, heap);
-    run_text(ran.end, &ran.state)
-}
+use vm::start;
 
 // Starts an image, interns its names, runs it and answers the report. `words` are its sections joined, the buffers as the header asks for.
 pub fn rate(
@@ -53,20 +33,17 @@ pub fn rate(
     requires name_room { 32768 ≤ length name.old }
     ensures { result.bytes ≡ started_text input.now head (start (image_said input.now) head.base (lent_for head)) }
 {
-    let begun = start::start(head.base, words, frames, heap, slots, spare);
-    let Reply::Done = begun.reply else {
-        return reply_text(begun.reply);
+    let mut state = match start::start(head.base, words, frames, heap, slots, spare) {
+        Ok(state) => state,
+        Err(why) => return refusal_text(why),
     };
     let first = words[0] as usize;
     let end = words[1] as usize;
-    let named = image_names::intern_names(
-        input,
-        begun.state,
-        &mut words[first..end],
-        heap,
-        slots,
-        spare,
-        name,
-    );
-    named_text(named, head.budget as Steps, words, frames, heap)
+    let globals = &mut words[first..end];
+    let named = image_names::intern_names(input, &mut state, globals, heap, slots, spare, name);
+    if let Err(why) = named {
+        return refusal_text(why);
+    }
+    let ran = run::run(state, head.budget as Steps, words, frames, heap);
+    run_text(ran.end, &ran.state)
 }

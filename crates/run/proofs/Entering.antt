@@ -1,13 +1,12 @@
 -- A run from its call on: what its tests leave, frame 0, and how the call's answer comes from the loop's. Assumes nothing.
-use Rattle.std.proofs.Common.{◌≡◌, ℕ, zero, suc, ◌+◌, ◌%◌, ◌^◌, ◌<◌, ◌≤◌, Bool, true, false, cond, ◌&&◌, ◌||◌, eqb, ltb, leb, List, [], ◌∷◌, length, take, set, sym, refl, ap, ◌∙◌, zero-add, arith, length-set, le-ltb, lt-ltb, eqb-true, leb-true}
+use Rattle.std.proofs.Common.{◌≡◌, ℕ, zero, suc, ◌+◌, ◌-◌, ◌%◌, ◌^◌, ◌<◌, ◌≤◌, Bool, true, false, cond, ◌&&◌, ◌||◌, eqb, ltb, leb, List, [], ◌∷◌, length, take, set, sym, refl, ap, ◌∙◌, zero-add, arith, length-set, le-ltb, lt-ltb, leb-true}
 use mathlib.Core.Option.{none, some}
 use lib.Seq.{take-set-lt}
-use Rattle.anomaly.specs.Table.{is_anomaly}
 use Rattle.memory.proofs.Tests.{both}
 use Rattle.gc.specs.Lent.{InHeap}
 use Rattle.gc.specs.Lent as Heap
 use Rattle.gc.proofs.Soundness as Soundness
-use Rattle.program.specs.Image.{Image, tables_ok, image_ok, image_tests, failing}
+use Rattle.program.specs.Image.{Image, image_tests, failing}
 use Rattle.vm.specs.declared.State.{State}
 use Rattle.instruction.specs.declared.Position.{Position}
 use Rattle.vm.specs.Core.{Core, set_regs, set_pc, set_frames}
@@ -15,18 +14,20 @@ use Rattle.vm.specs.Run.{Ran, go, root, entered, stored}
 use Rattle.vm.specs.Machine.{Lent, Machine, lend_frames, sizes, memory_of, view, with_pages, traced, with_frames, with_regs, laid, run, Called, ended, refused}
 use Rattle.vm.specs.Machine.{ran, idle, runs, run_leaves, run_call, act, frames_ok, heap_ok, frames_belong, pages_belong, tests_by, tests, tried, perform}
 use Rattle.vm.specs.Told.{machine_of}
-use Rattle.vm.specs.Loaded.{Loaded}
 use Rattle.instruction.specs.Turn.{position_of, Fitting}
 use Rattle.run.specs.Loop.{Going, Finished, finishes, finished, stored_pc}
-use Rattle.effects.proofs.Asks.{difference}
-use Rattle.vm.proofs.Fits.{view-fits}
 use Rattle.program.proofs.Tests.{failing-here, failing_later}
 use Rattle.vm.proofs.Buffers.{frames_room, heap-low}
 use Rattle.vm.proofs.Replies.{over_first}
 use Rattle.vm.proofs.Runs.{runs-go, runs_past}
 use Rattle.vm.proofs.Inside.{Inside}
-use Rattle.vm.proofs.Ends.{all_passed, code-size, checks, from_inside, go-listed}
+use Rattle.vm.proofs.Ends.{all_passed, from_inside}
 use Rattle.instruction.proofs.Turns.{laid_same}
+
+-- 'writes frame 0 with (length − 2) modulo 2^64'
+pub root_is : (n k : ℕ) → k ≡ n → (k + (2 ^ 64 - 2)) % 2 ^ 64 ≡ root n
+unfolding root
+root_is n k e = rw e refl
 
 take_first : (d : ℕ) (xs : List ℕ) (v : ℕ) → take d (set xs 0 v) ≡ set (take d xs) 0 v
 take_first zero xs v = refl
@@ -93,11 +94,6 @@ module _ (im : Image) (b : ℕ) (s : State) (l : Lent) (passed : failing (tests 
 
   lent_fine : (frames_ok (length frames) ≡ true) × (heap_ok s.gc.base (length heap) ≡ true)
   lent_fine = both (frames_ok (length frames)) _ (all_passed im b m passed).lent
-
-  -- 'writes frame 0 with (length − 2) modulo 2^64'
-  pub root_is : (r : ℕ) → r < 2 ^ 64 → (r + 2) % 2 ^ 64 ≡ n → r ≡ root n
-  unfolding root
-  root_is r h e = let size = code-size im (all_passed im b m passed).image in difference n 2 r (omega arith) (omega arith) h e
 
   pub frame_there : 0 < length frames
   frame_there = frames_room (length frames) lent_fine.0
@@ -215,22 +211,6 @@ module _ (im : Image) (b : ℕ) (s : State) (l : Lent) (passed : failing (tests 
 
   -- ---- what the loop asks for
 
-  pub loaded : 0 < n → Loaded im
-  unfolding image_ok
-  loaded words =
-      let p = all_passed im b m passed in
-      let rest = (both (leb (length im.code) 65536) _ p.image).1 in
-      let tables = (both (leb (length im.globals) 4096) _ rest).1 in
-      let switches = both (tables_ok im.switches) _ tables in
-      let lookups = both (tables_ok im.lookups) _ switches.1 in
-      record {
-        size = code-size im p.image;
-        switches = switches.0;
-        lookups = lookups.0;
-        defaults = eqb-true _ _ lookups.1;
-        checks = checks im b m passed words;
-      }
-
   inside_opened : s.pc < n → Inside n (entered n (view m))
   inside_opened h = by n refl
     where
@@ -243,14 +223,6 @@ module _ (im : Image) (b : ℕ) (s : State) (l : Lent) (passed : failing (tests 
   inside h =
       let i = inside_opened h in
       record { here = h; returns = rw (take_first s.depth frames (root n)) i.returns; fitting = fitting_opened }
-
-  listed : s.pc < n → (x : Finished) → x ≡ finished im b 0 m₁ → ((eqb x.ending 0 || eqb x.ending 5) || is_anomaly x.ending) ≡ true
-  unfolding finished finishes
-  listed h x e =
-      let c = entered n (view m) in
-      let fit = rw view_opened at (view-fits m₁ (view m₁) refl) in
-      let found = go-listed (sizes m₁.lent) im (checks im b m passed (omega arith)) b c fit (inside_opened h) in
-      rw (e, view_opened) found.number
 
   -- ---- the same, of what the code has written to frame 0
 
@@ -266,7 +238,3 @@ module _ (im : Image) (b : ℕ) (s : State) (l : Lent) (passed : failing (tests 
 
     pub going : s.pc < n → Going n at (lend_frames (set frames 0 r) l)
     going = rw written inside
-
-    pub run-listed : s.pc < n → (x : Finished) → x ≡ finished im b 0 entry
-        → ((eqb x.ending 0 || eqb x.ending 5) || is_anomaly x.ending) ≡ true
-    run-listed = rw written listed

@@ -1,33 +1,30 @@
 -- The loop of a run: each way that a turn goes leaves the same run to be finished. Assumes nothing.
-use Rattle.std.proofs.Common.{◌≡◌, ℕ, suc, ◌+◌, ◌-◌, ◌^◌, ◌<◌, ◌≤◌, true, ◌||◌, eqb, List, [], length, get_or, sym, refl, ap, ◌∙◌, add-zero, arith, lt-ltb, ne_eqb}
+use Rattle.std.proofs.Common.{◌≡◌, ℕ, suc, ◌+◌, ◌-◌, ◌^◌, ◌<◌, ◌≤◌, List, [], length, get_or, sym, refl, ap, ◌∙◌, add-zero, arith, lt-ltb}
 use native.Mathlib.Nat.{sub-zero}
 use Rattle.memory.proofs.Over.{length_over, take-over, over-over}
-use Rattle.anomaly.specs.Table.{is_anomaly}
 use Rattle.gc.specs.Lent.{pages_of, numbers_of, InHeap}
 use Rattle.gc.proofs.Blocks.{pushed-is, pages_of-over}
 use Rattle.op.specs.Decode.{decode_of}
 use Rattle.effects.specs.declared.Effect.{Effect}
 use Rattle.program.specs.Image.{Image}
 use Rattle.effects.specs.Effect.{word_effect}
+use Rattle.effects.specs.Stops.{EndsListed}
+use Rattle.effects.proofs.Inside.{ends_listed}
 use Rattle.instruction.specs.declared.Position.{Position}
 use mathlib.Core.Option.{none}
 use Rattle.vm.specs.declared.State.{State}
 use Rattle.vm.specs.Core.{Core, used, short, ◌⊑◌, set_regs, set_pc}
 use Rattle.vm.specs.Run.{Step, next, halted, stop, asked, fetched, step, Ran, after, go}
 use Rattle.vm.specs.Machine.{Lent, Machine, sizes, unlent, memory_of, view, with_pages, traced, with_frames, with_regs, laid, blank}
-use Rattle.vm.specs.Loaded.{Loaded, Writable}
+use Rattle.vm.specs.Loaded.{Loaded}
 use Rattle.instruction.specs.Turn.{position_of, machine_at, goes, halts, stops, Turned, turned, turn}
 use Rattle.run.specs.Loop.{Going, Finished, finishes, finished}
 use Rattle.vm.proofs.Fits.{fits_of, view-within, view-fits}
 use Rattle.vm.proofs.Upward.{go-next, go-halted, go-stop}
 use Rattle.vm.proofs.Kept.{Kept, GoodStep, step_good}
 use Rattle.vm.proofs.Grows.{Ends, GrowsStep, step_grows, go_grows}
-use Rattle.vm.proofs.Inside.{Inside, StepOk, step_ok, writable, word_ok}
+use Rattle.vm.proofs.Inside.{Inside, StepOk, step_ok, word_ok}
 use Rattle.instruction.proofs.Turns.{laid_same}
-
--- an end that is neither 0 nor 5
-pub anomaly_left : (e : ℕ) → (Unit {0} × (e ≡ 0 → ⊥)) × (e ≡ 5 → ⊥) → ((eqb e 0 || eqb e 5) || is_anomaly e) ≡ true → is_anomaly e ≡ true
-anomaly_left e n h = rw (ne_eqb e 0 n.0.1, ne_eqb e 5 n.1) at h
 
 -- ---- a core laid back, as the next machine
 
@@ -173,35 +170,32 @@ module _ (s : State) (im : Image) (at : Position) (regs : List ℕ) (l : Lent) (
   unfolding finished finishes go
   to_budget n = rw (as_it_was, add-zero n) refl
 
-  pub here_writable : Writable here
-  here_writable = writable (length im.code) here (word_ok im regs (get_or im.code at.pc 0) ok.checks (ok.checks.words at.pc g.here))
+  pub here_listed : EndsListed here
+  here_listed = ends_listed (length im.code) here (word_ok im regs (get_or im.code at.pc 0) ok.checks (ok.checks.words at.pc g.here))
 
 -- ---- the loop's invariant
 
--- where the loop has come to, with `left` steps of the budget left: what is left of the run from here is what the whole run was. `lent` puts
--- what the loop is lent into any buffers
+-- where the loop has come to, with `done` steps completed: what is left of the run from here is what the whole run was. `lent` puts what the loop
+-- is lent into any buffers
 pub record Running (im : Image) (budget : ℕ) (regs₀ : List ℕ) (lent₀ : Lent → Lent) (at₀ : Position) (regs : List ℕ) (lent : Lent → Lent)
-    (at : Position) (left : ℕ) : Type 0 where
+    (at : Position) (done : ℕ) : Type 0 where
   pub rest : (s : State) (l : Lent)
-      → finished im left (budget - left) (machine_at s at regs (lent l)) ≡ finished im budget 0 (machine_at s at₀ regs₀ (lent₀ l))
+      → finished im (budget - done) done (machine_at s at regs (lent l)) ≡ finished im budget 0 (machine_at s at₀ regs₀ (lent₀ l))
   pub here : at.pc < length im.code
   pub going : (l : Lent) → Going (length im.code) at (lent l)
-  pub within : left ≤ budget
 
 pub running_first : (im : Image) (budget : ℕ) (regs : List ℕ) (lent : Lent → Lent) (at : Position)
-    → ((l : Lent) → Going (length im.code) at (lent l)) → Running im budget regs lent at regs lent at budget
+    → ((l : Lent) → Going (length im.code) at (lent l)) → Running im budget regs lent at regs lent at 0
 running_first im budget regs lent at g =
-    let none_done : budget - budget ≡ 0 = omega arith in
     record {
-      rest = λ s l. ap (λ (n : ℕ). finished im budget n (machine_at s at regs (lent l))) none_done;
+      rest = λ s l. ap (λ (n : ℕ). finished im n 0 (machine_at s at regs (lent l))) (sub-zero budget);
       here = (g unlent).here;
       going = g;
-      within = omega arith;
     }
 
 module _ (im : Image) (ok : Loaded im) (budget : ℕ) (regs₀ : List ℕ) (lent₀ : Lent → Lent) (at₀ : Position) (regs : List ℕ) (lent : Lent → Lent)
-    (at : Position) (left : ℕ)
-    (r : Running im budget regs₀ lent₀ at₀ regs lent at left)
+    (at : Position) (done : ℕ)
+    (r : Running im budget regs₀ lent₀ at₀ regs lent at done)
   where
     abbrev now_at : State → Lent → Machine
     now_at s l = machine_at s at regs (lent l)
@@ -212,44 +206,43 @@ module _ (im : Image) (ok : Loaded im) (budget : ℕ) (regs₀ : List ℕ) (lent
     abbrev asks : Effect
     asks = word_effect im regs (decode_of (get_or im.code at.pc 0))
 
-    module _ (more : 0 < left) where
-      rest_more : (s : State) (l : Lent) → finished im (suc (left - 1)) (budget - left) (now_at s l) ≡ whole s l
+    module _ (more : done < budget) where
+      rest_more : (s : State) (l : Lent) → finished im (suc (budget - suc done)) done (now_at s l) ≡ whole s l
       rest_more s l =
-          let one : suc (left - 1) ≡ left = omega arith in
+          let one : suc (budget - suc done) ≡ budget - done = omega arith in
           rw one (r.rest s l)
 
       pub running_next : (to : Position) (regs' : List ℕ) (lent' : Lent → Lent)
           → ((s : State) (l : Lent) → record { how = goes; machine = machine_at s to regs' (lent' l) } ≡ turn asks (now_at s l))
-          → Running im budget regs₀ lent₀ at₀ regs' lent' to (left - 1)
+          → Running im budget regs₀ lent₀ at₀ regs' lent' to (done + 1)
       running_next to regs' lent' e =
-          let w = r.within in
-          let done : budget - (left - 1) ≡ suc (budget - left) = omega arith in
+          let next : done + 1 ≡ suc done = omega arith in
           record {
-            rest = λ s l. rw done (sym (on s l).left ∙ rest_more s l);
+            rest = λ s l. rw next (sym (on s l).left ∙ rest_more s l);
             here = (on (blank 0 unlent).state unlent).going.here;
             going = λ l. (on (blank 0 l).state l).going;
-            within = omega arith;
           }
         where
-          on : (s : State) (l : Lent) → On s im at regs (lent l) ok (r.going l) (left - 1) (budget - left) (machine_at s to regs' (lent' l))
-          on s l = to_next s im at regs (lent l) ok (r.going l) (left - 1) (budget - left) _ (e s l)
+          on : (s : State) (l : Lent) → On s im at regs (lent l) ok (r.going l) (budget - suc done) done (machine_at s to regs' (lent' l))
+          on s l = to_next s im at regs (lent l) ok (r.going l) (budget - suc done) done _ (e s l)
 
       module _ (s : State) (l : Lent) where
         pub halted-here : (m' : Machine) → record { how = halts; machine = m' } ≡ turn asks (now_at s l)
-            → record { ending = 0; steps = (budget - left) + 1; machine = m' } ≡ whole s l
-        halted-here m' e = to_halt s im at regs (lent l) ok (r.going l) (left - 1) (budget - left) m' e ∙ rest_more s l
+            → record { ending = 0; steps = done + 1; machine = m' } ≡ whole s l
+        halted-here m' e = to_halt s im at regs (lent l) ok (r.going l) (budget - suc done) done m' e ∙ rest_more s l
 
         pub stopped_here : (k : ℕ) (m' : Machine) → record { how = stops k; machine = m' } ≡ turn asks (now_at s l)
-            → record { ending = k; steps = budget - left; machine = m' } ≡ whole s l
-        stopped_here k m' e = to_stop s im at regs (lent l) ok (r.going l) (left - 1) (budget - left) k m' e ∙ rest_more s l
+            → record { ending = k; steps = done; machine = m' } ≡ whole s l
+        stopped_here k m' e = to_stop s im at regs (lent l) ok (r.going l) (budget - suc done) done k m' e ∙ rest_more s l
 
-    pub spent-here : left ≤ 0 → (s : State) (l : Lent) → record { ending = 5; steps = budget; machine = now_at s l } ≡ whole s l
-    spent-here h s l =
-        let none_left : left ≡ 0 = omega arith in
-        to_budget s im at regs (lent l) ok (r.going l) budget ∙ (rw (none_left, sub-zero budget) at (r.rest s l))
+    pub spent-here : budget ≤ done → done ≤ budget → (s : State) (l : Lent) → record { ending = 5; steps = budget; machine = now_at s l } ≡ whole s l
+    spent-here h w s l =
+        let none_left : budget - done ≡ 0 = omega arith in
+        let all : done ≡ budget = omega arith in
+        to_budget s im at regs (lent l) ok (r.going l) budget ∙ (rw (none_left, all) at (r.rest s l))
 
-    pub asks_writable : Writable asks
-    asks_writable = here_writable (blank 0 unlent).state im at regs (lent unlent) ok (r.going unlent)
+    pub asks_listed : EndsListed asks
+    asks_listed = here_listed (blank 0 unlent).state im at regs (lent unlent) ok (r.going unlent)
 
     pub next_fits : at.pc + 1 < 2 ^ 64
     next_fits = let h = r.here in let s = ok.size in omega arith

@@ -4,6 +4,8 @@ use Rattle.program.specs.Image.{Image}
 use Rattle.vm.specs.declared.State.{State}
 use Rattle.instruction.specs.declared.Position.{Position}
 use Rattle.instruction.specs.Turn.{state_at, machine_at, Fitting}
+use Rattle.anomaly.specs.Table.{number_of_anomaly}
+use Rattle.run.specs.declared.Ending.{Ending}
 use Rattle.run.specs.declared.Ended.{Ended}
 use Rattle.run.specs.declared.Ran as Code
 use Rattle.vm.specs.Run.{Ran, go}
@@ -30,19 +32,25 @@ pub record Finished : Type 0 where
 unfoldable pub finishes : ℕ → Machine → Ran → Finished
 finishes n m r = record { ending = r.ending; steps = n + r.steps; machine = laid r.trail r.core m }
 
+-- 0 at Halt, 5 when the budget is completed
+abbrev pub number_of_ending : Ending → ℕ
+number_of_ending Ending.Halt = 0
+number_of_ending Ending.Budget = 5
+number_of_ending (Ending.Stopped why) = number_of_anomaly why
+
 -- what is left of a run that has completed n steps and may complete b more
 unfoldable pub finished : Image → ℕ → ℕ → Machine → Finished
 finished im b n m = finishes n m (go (sizes m.lent) im b (view m))
 
 abbrev pub finished_at : State → List ℕ → Lent → Ended → Finished
-finished_at s regs l r = record { ending = r.ending; steps = r.steps; machine = machine_at s r.at regs l }
+finished_at s regs l r = record { ending = number_of_ending r.ending; steps = r.steps; machine = machine_at s r.at regs l }
 
 -- the state after a run: 'After every end but 0 and 5 the stored pc is the one from before the run'
 abbrev pub stored_pc : ℕ → ℕ → ℕ → ℕ
 stored_pc e first pc = cond (e == 0 || e == 5) pc first
 
 abbrev pub stored_in : State → List ℕ → Ended → State
-stored_in s regs e = keep_pc (stored_pc e.ending s.pc e.at.pc) (state_at s e.at regs)
+stored_in s regs e = keep_pc (stored_pc (number_of_ending e.ending) s.pc e.at.pc) (state_at s e.at regs)
 
 abbrev pub ran_told : Code.Ran → Lent → Called
 ran_told r l = record { answer = answer_of r.end; machine = machine_of r.state l }

@@ -1,8 +1,8 @@
 -- What 9 asks of pages and names is kept by every host call and by every run. Assumes nothing.
+use Rattle.std.specs.Prelude as std
 use mathlib.Core.Path.{◌≡◌, refl}
 use Prim.Native.Nat.{ℕ, ◌+◌, ◌-◌, ◌%◌, ◌≤◌, ◌<◌}
 use mathlib.Core.Bool.{Bool, true, false}
-use mathlib.Core.Option.{Option, none, some}
 use mathlib.Core.List.{List}
 use native.Mathlib.Omega.{arith}
 use lib.ListN.{length, length-append, length-replicate}
@@ -155,10 +155,10 @@ module _ (l : Memory) (h : Belongs l) where
   known-belongs s (std.Some v) le = h
   known-belongs s std.None le = fresh-belongs s le
 
-  optional-belongs : (o : Option ℕ) → Belongs (Names.optional o l).memory
+  optional-belongs : (o : std.Option ℕ) → Belongs (Names.optional o l).memory
   unfolding Names.optional Names.boxed Names.filled set_pages
-  optional-belongs none = h
-  optional-belongs (some v) = pages_belong_lem l _ h (filled_pushes _ 2 16)
+  optional-belongs std.None = h
+  optional-belongs (std.Some v) = pages_belong_lem l _ h (filled_pushes _ 2 16)
 
   pub hosted-belongs : (k : Host) → length (hosted k l).memory.slots ≤ 4096 → Belongs (hosted k l).memory
   unfolding hosted Names.allocates Names.as_given Names.interned

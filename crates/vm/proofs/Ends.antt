@@ -5,7 +5,7 @@ use mathlib.Core.Path.{◌≡◌, refl, sym, ap, subst, ◌∙◌}
 use Prim.Native.Nat.{ℕ, zero, suc, ◌+◌, ◌-◌, ◌%◌, ◌^◌, ◌≤◌, ◌<◌}
 use mathlib.Core.Bool.{Bool, true, false, ◌&&◌, ◌||◌, true≢false}
 use mathlib.Core.Option.{Option, none, some}
-use mathlib.Core.List.{List, [], ◌∷◌, ◌++◌}
+use mathlib.Core.List.{List, [], ◌∷◌, ◌++◌, append-nil}
 use native.Mathlib.Omega.{arith}
 use native.Mathlib.Nat.{not-suc-le-zero, le_of_suc-le-suc, mod-le}
 use lib.ListN.{length, get_or, take, drop, set}
@@ -29,7 +29,8 @@ use Rattle.vm.proofs.Refusals.{failing_numbered, image_alone, call_numbered}
 use Rattle.vm.proofs.Upward.{go-next, go-halted, go-stop}
 use Rattle.vm.proofs.Kept.{GoodStep, step_good}
 use Rattle.vm.proofs.Runs.{entered-used, runs-go, runs_past}
-use Rattle.vm.specs.Loaded.{Checks, Returns}
+use Rattle.program.proofs.Images.{passed_tables}
+use Rattle.vm.specs.Loaded.{Checks, Loaded, Returns}
 use Rattle.vm.specs.Listed.{Listed, RunEnds, RunAnswer, StartAnswer}
 use Rattle.vm.proofs.Inside.{Inside, StepOk, step_ok}
 
@@ -121,6 +122,23 @@ entered-returns last (f ∷ fs) b h = (root-returns last b, returns_of last fs h
 pub code-size : (im : Image) → image_ok im ≡ true → length im.code ≤ 65536
 unfolding image_ok
 code-size im h = leb-true _ _ (both (leb (length im.code) 65536) _ h).0
+
+-- what a loaded image is
+pub loaded_by : (im : Image) → failing (image_tests true im) ≡ none → 0 < length im.code → Loaded im
+unfolding image_tests
+loaded_by im p l =
+    let size = failing-cons (test (image_ok im) 10) _ p in
+    let halts = failing-cons (test _ 11) _ size.1 in
+    let targets = failing-cons (test _ 16) _ halts.1 in
+    let words = words_fine (counts im) im.code [] (rw append-nil targets.1) in
+    let tables = passed_tables im p in
+    record {
+      size = code-size im size.0;
+      switches = tables.0;
+      lookups = tables.1;
+      defaults = tables.2;
+      checks = record { targets = targets.0; words = words.0; ends = ends_at im.code l halts.0 };
+    }
 
 -- ---- the whole call
 

@@ -6,6 +6,7 @@ use mathlib.Core.Option.{Option, none, some}
 use mathlib.Core.List.{List}
 use lib.ListN.{set}
 use Rattle.gc.specs.Pages.{allocated}
+use Rattle.gc.specs.Metadata.{bits_of}
 use Rattle.gc.specs.Lent.{page_size}
 use Rattle.effects.specs.declared.Effect.{Effect}
 use Rattle.effects.specs.declared.Effect.TheVariants as effect
@@ -56,7 +57,7 @@ module _ (P : List ℕ → Memory → Type 0) where
     apply_every effect.Ret = returned_every _ c same
     apply_every (effect.Load dst base offset) = provided_every _ 6 c _ same (sets _ dst _ same)
     apply_every (effect.Store base offset v) = provided_every _ 6 c _ same (stores _ v)
-    apply_every (effect.Alloc dst kind size) = takes dst kind size
+    apply_every (effect.Alloc dst kind size) = takes dst (bits_of kind) size
     apply_every (effect.Stop e) = same
     apply_every effect.Halt = tt
 

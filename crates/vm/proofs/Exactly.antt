@@ -9,14 +9,15 @@ use lib.Dec.{ltb}
 use Rattle.gc.specs.Pages.{Pages, Block, grow_of, holds, allocated}
 use Rattle.gc.specs.Lent.{page_size, pages_of}
 use Rattle.gc.specs.Lent as Heap
-use Rattle.std.specs.Prelude.{is_none}
+use Rattle.std.specs.Prelude.{is_none, ok_or}
+use Rattle.anomaly.specs.declared.Refusal.{Refusal}
 use Rattle.gc.proofs.Blocks.{refused_exactly}
 use Rattle.gc.proofs.Soundness.{sound}
 use Rattle.program.specs.Image.{test, failing}
 use Rattle.program.proofs.Tests.{failing-cons}
 use Rattle.vm.specs.declared.State.{State}
-use Rattle.vm.specs.Machine.{Lent, keep_gc, value, refused, host, allocate, heap_ok, pages_belong, Called, tests_by, tests, perform}
-use Rattle.vm.specs.Told.{machine_of, said_of, allocated_in}
+use Rattle.vm.specs.Machine.{Lent, value, refused, host, allocate, heap_ok, pages_belong, Called, tests_by, tests, perform}
+use Rattle.vm.specs.Told.{machine_of, answer_by}
 use Rattle.vm.proofs.Buffers.{heap-low}
 use Rattle.vm.proofs.Replies.{allocate-told}
 
@@ -29,9 +30,9 @@ module _ (s : State) (l : Lent) (kind align n : ℕ) where
   lacking = not (holds n pages) && ltb (length l.heap - s.gc.pushed) (grow_of page_size n)
 
   answered : (t : Bool) (b : Block)
-      → said_of (allocated_in (keep_gc (Heap.granted t b s.gc l.heap).numbers s) (Heap.granted t b s.gc l.heap).answer).reply
+      → answer_by value (ok_or (Heap.granted t b s.gc l.heap).answer Refusal.Memory)
       ≡ cond (is_none (Heap.granted t b s.gc l.heap).answer) (refused 2) (value b.address)
-  unfolding Heap.granted said_of
+  unfolding Heap.granted
   answered true b = refl
   answered false b = refl
 
@@ -45,6 +46,6 @@ module _ (s : State) (l : Lent) (kind align n : ℕ) where
       let operands = failing-cons (test _ 13) _ size.1 in
       let state = failing-cons (test _ 9) _ operands.1 in
       let in_heap_lem = sound s.gc l.heap (heap-low _ _ size.0) state.0 in
-      ap (λ (c : Called). c.answer) (sym (allocate-told s l kind align n size.0 operands.0 state.0 _ refl))
+      ap (λ (c : Called). c.answer) (sym (allocate-told s l kind align n passed _ refl))
       ∙ answered _ (allocated page_size kind n pages)
       ∙ rw (refused_exactly s.gc kind n l.heap in_heap_lem) refl

@@ -18,27 +18,13 @@ use Rattle.effects.specs.declared.Effect.TheVariants as effect
 use Rattle.vm.specs.Core.{Core, Sizes, used, needs, short, ◌⊑◌, set_regs, set_pc, set_frames, set_memory}
 use Rattle.program.specs.Image.{Image, counts}
 use Rattle.effects.specs.Effect.{word_effect}
-use Rattle.effects.proofs.Inside.{EffectOk, asks_ok, halt_effect}
+use Rattle.effects.proofs.Inside.{EffectOk, anomaly_listed, asks_ok, halt_effect}
 use Rattle.vm.specs.Run.{Step, next, halted, stop, provided, forward, returned, block_to, apply, fetched, asked, unless, limited, step}
-use Rattle.vm.specs.Loaded.{Checks, Returns, Writable}
+use Rattle.vm.specs.Loaded.{Checks, Returns}
 use Rattle.vm.proofs.Fits.{failing_each}
 use Rattle.vm.proofs.Kept.{Kept, KeptStep, apply-kept}
 
 -- ---- effects
-
-pub writable : (n : ℕ) (e : Effect) → EffectOk n e → Writable e
-writable n (effect.Set dst v) o = o
-writable n effect.Skip o = tt
-writable n (effect.Goto target) o = tt
-writable n (effect.Call func) o = tt
-writable n effect.Ret o = tt
-writable n (effect.Load dst base offset) o = o
-writable n (effect.Store base offset v) o = tt
-writable n (effect.Alloc dst kind size) o = o
-writable n (effect.Stop e) o = tt
-writable n effect.Halt o = tt
-
--- ---- the word at the pc
 
 pub word_ok : (im : Image) (r : List ℕ) (w : ℕ) → Checks im → check_of (counts im) w ≡ Ok tt
     → EffectOk (length im.code) (word_effect im r (decode_of w))
@@ -90,7 +76,7 @@ module _ (n : ℕ) (c : Core) (i : Inside n c) (more : c.pc + 1 < n) where
   apply_ok (effect.Load dst base offset) o = provided_ok _ 6 _ refl (record { here = more; returns = i.returns })
   apply_ok (effect.Store base offset v) o = provided_ok _ 6 _ refl (record { here = more; returns = i.returns })
   apply_ok (effect.Alloc dst kind size) o = record { here = more; returns = i.returns }
-  apply_ok (effect.Stop e) o = o
+  apply_ok (effect.Stop why) o = anomaly_listed why o
   apply_ok effect.Halt o = tt
 
 -- ---- held to what is lent: a run lacks frames or heap, and never slots

@@ -1,9 +1,10 @@
 -- What a run and a host call leave alone: the base, and where no name is interned slots and names; and that a run stays within what is
 -- lent. Assumes nothing.
+use Rattle.std.specs.Prelude as std
 use mathlib.Core.Path.{◌≡◌, refl, ◌∙◌}
 use Prim.Native.Nat.{ℕ}
 use mathlib.Core.Bool.{Bool, true, false}
-use mathlib.Core.Option.{Option, none, some}
+use mathlib.Core.Option.{none}
 use mathlib.Core.List.{List}
 use Rattle.gc.specs.Pages.{Pages, block, pushed, fitted, allocated, holds}
 use Rattle.std.specs.Prelude as std
@@ -73,10 +74,10 @@ pub boxed-kept : (tag v : ℕ) (l : Memory) → Kept l (Names.boxed tag v l).mem
 unfolding Names.boxed Names.filled set_pages set_bytes
 boxed-kept tag v l = record { slots = refl; names = refl; base = allocated-base _ 2 16 l.pages }
 
-pub optional-kept : (o : Option ℕ) (l : Memory) → Kept l (Names.optional o l).memory
+pub optional-kept : (o : std.Option ℕ) (l : Memory) → Kept l (Names.optional o l).memory
 unfolding Names.optional
-optional-kept none l = kept l
-optional-kept (some v) l = boxed-kept 1 v l
+optional-kept std.None l = kept l
+optional-kept (std.Some v) l = boxed-kept 1 v l
 
 -- an interning keeps the base
 fresh-base : (s : List ℕ) (l : Memory) → (Names.fresh s l).memory.pages.base ≡ l.pages.base

@@ -44,3 +44,4 @@ pub mod Belongs
 pub mod Exactly
 -- which kinds of answers each kind of call has, and that their numbers are the table's
 pub mod Answered
+pub mod Tested

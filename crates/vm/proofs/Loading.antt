@@ -43,6 +43,10 @@ module _ (base : ℕ) (l : Lent) (r : std.Option ℕ) (g : Gc) (x : List ℕ)
 
 -- ---- the tests
 
+-- buffers that have their sizes: the image decides
+pub sized : {o : Option ℕ} (im : Image) (lent : Bool) → lent ≡ true → failing (image_tests true im) ≡ o → failing (image_tests lent im) ≡ o
+sized im lent e p = rw e p
+
 module _ (im : Image) (base : ℕ) (l : Lent) where
   pub start-refused : (k r : ℕ) (m : Machine) → failing (image_tests (buffers_ok base l) im) ≡ some k → r ≡ k → m ≡ blank base l
       → record { answer = refused r; machine = m } ≡ started_on (start im base l) base l

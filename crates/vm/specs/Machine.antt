@@ -1,5 +1,6 @@
 -- The machine: its state and the lent buffers, the calls, their refusals in the paper's order, and the start. Definitions only.
 use Rattle.std.specs.Prelude.{ℕ, zero, suc, ◌+◌, ◌-◌, ◌*◌, ◌%◌, ◌^◌, Bool, true, false, ◌&&◌, List, [], ◌∷◌, ◌++◌, length, take, drop, set, replicate, leb, ltb, eqb}
+use Rattle.std.specs.Prelude as std
 use Rattle.std.proofs.Math.Option.{Option, none, some}
 use Rattle.memory.specs.Lists.{over}
 use Rattle.string.specs.Payload.{small_name}
@@ -145,7 +146,7 @@ pub data Setting : Type 0 where
 -- calls that allocate
 pub data Host : Type 0 where
   allocate : ℕ → ℕ → ℕ → Host  -- kind, align, size
-  option : Option ℕ → Host
+  option : std.Option ℕ → Host
   intern : List ℕ → Host
   intern_small : ℕ → ℕ → Host  -- length, word
 

@@ -1,7 +1,5 @@
 -- What a host allocates: blocks, options and names, on a memory without limits. Definitions only.
-use Rattle.std.specs.Prelude.{ℕ, ◌+◌, ◌-◌, List, ◌++◌, length}
-use Rattle.std.proofs.Math.Option.{Option, none, some}
-use Rattle.std.specs.Prelude as std
+use Rattle.std.specs.Prelude.{ℕ, ◌+◌, ◌-◌, List, ◌++◌, length, Option, None, Some}
 use Rattle.memory.specs.Bytes.{bytes_of}
 use Rattle.memory.specs.Lists.{write}
 use Rattle.string.specs.Hash.{hash_of}
@@ -41,8 +39,8 @@ boxed tag v l = filled (box_of tag v) l (allocated page_size 2 16 l.pages)
 
 -- '`new_option` of none returns `none`', which is B+16
 unfoldable pub optional : Option ℕ → Memory → Given
-optional none l = record { value = l.pages.base + 16; memory = l }
-optional (some v) l = boxed 1 v l
+optional None l = record { value = l.pages.base + 16; memory = l }
+optional (Some v) l = boxed 1 v l
 
 -- a name's value v in the table: the old slots placed again if the table grows, then its slot
 unfoldable pub tabled : ℕ → ℕ → List ℕ → ℕ → Pages → Given
@@ -57,9 +55,9 @@ fresh s l =
     tabled (hash_of s) g.value l.slots l.names g.memory.pages
 
 -- 'the value if found (whole length, hash and bytes equal)'
-unfoldable pub known : List ℕ → Memory → std.Option ℕ → Given
-known s l (std.Some v) = record { value = v; memory = l }
-known s l std.None = fresh s l
+unfoldable pub known : List ℕ → Memory → Option ℕ → Given
+known s l (Some v) = record { value = v; memory = l }
+known s l None = fresh s l
 
 unfoldable pub interned : List ℕ → Memory → Given
 interned s l = known s l (found_value (lookup (holds l.pages.base l.pages.bytes s (hash_of s)) l.slots (hash_of s)))

@@ -5,13 +5,16 @@ use Rattle.memory.specs.Bytes.{bytes_of, number}
 use Rattle.memory.specs.Lists.{write}
 use Rattle.string.specs.Payload.{reaches}
 use Rattle.gc.specs.Pages.{Pages, Block, allocated}
+use Rattle.gc.specs.Metadata.{bits_of}
 use Rattle.gc.specs.Lent.{page_size}
 use Rattle.op.specs.Decode.{decode_of}
 use Rattle.effects.specs.declared.Effect.{Effect}
 use Rattle.effects.specs.declared.Effect.TheVariants as effect
 use Rattle.vm.specs.Core.{Core, Sizes, used, short, set_reg, set_pc, set_frames, set_memory, set_pages, set_bytes}
 use Rattle.program.specs.Image.{Image}
-use Rattle.effects.specs.Effect.{unlisted, word_effect}
+use Rattle.effects.specs.declared.Stop.TheVariants.{Unlisted}
+use Rattle.effects.specs.Stops.{number_of_stop}
+use Rattle.effects.specs.Effect.{word_effect}
 
 -- what an instruction comes to: a further core, a Halt, or an end with the core that it leaves
 pub data Step : Type 0 where
@@ -57,14 +60,14 @@ apply (effect.Load dst base offset) c = provided (addressed c.memory.pages (base
 apply (effect.Store base offset v) c =
     provided (addressed c.memory.pages (base + offset)) 6 c
     (forward (set_memory (set_pages (stored8 (base + offset) v c.memory.pages) c.memory) c))
-apply (effect.Alloc dst kind size) c = block_to dst c (allocated page_size kind size c.memory.pages)
-apply (effect.Stop e) c = stop e c
+apply (effect.Alloc dst kind size) c = block_to dst c (allocated page_size (bits_of kind) size c.memory.pages)
+apply (effect.Stop why) c = stop (number_of_stop why) c
 apply effect.Halt c = halted
 
 -- the effect of the word at the pc
 unfoldable pub fetched : Bool → Image → Core → Effect
 fetched true im c = word_effect im c.regs (decode_of (get_or im.code c.pc 0))
-fetched false im c = effect.Stop unlisted
+fetched false im c = effect.Stop Unlisted
 
 -- what the word at the pc asks for
 unfoldable pub asked : Image → Core → Effect

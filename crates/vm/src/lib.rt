@@ -1,12 +1,15 @@
 // The machine: what it keeps between calls, and the calls of its host.
 #![tactic(auto)]
 
-ghost use Rattle.std.specs.Prelude.{◌≡◌, ◌≤◌, length};
+ghost use Rattle.std.specs.Prelude.{◌≡◌, ◌≤◌, ◌&&◌, ltb, [], ◌∷◌, length, IfOk};
 ghost use Rattle.memory.specs.Lists.{over};
-ghost use Rattle.vm.specs.Machine.{Lent, lend_frames, lend_heap, reset, put_pc, put_reg, setting, allocate, option, host, done, perform};
+ghost use Rattle.gc.specs.Metadata.{bits_of};
 ghost use Rattle.gc.specs.Lent.{InHeap, outcome, granted_in};
+ghost use Rattle.op.specs.Layout.{is_alignment};
+ghost use Rattle.program.specs.Image.{refused_with, test, failing};
+ghost use Rattle.vm.specs.Machine.{Lent, lend_frames, lend_heap, reset, put_pc, put_reg, setting, allocate, option, host, value, done, perform};
 ghost use Rattle.vm.specs.Names.{box_of, boxed};
-ghost use Rattle.vm.specs.Told.{machine_of, told, refused_by, allocated_in, block_of, memory_in, option_of};
+ghost use Rattle.vm.specs.Told.{machine_of, told, answer_by, block_of, memory_in};
 
 pub mod lent;
 pub mod start;
@@ -24,28 +27,6 @@ pub struct State {
     pub depth: usize,
     pub gc: Gc,
     pub strings: StrTable,
-}
-
-// What a host's call is answered with.
-#[derive(Clone, Copy)]
-pub enum Reply {
-    Value(u64),
-    Done,
-    Refused(Refusal),
-}
-
-// What an option is made of.
-#[derive(Clone, Copy)]
-pub enum Opt {
-    None,
-    Some(u64),
-}
-
-// A reply, and the state after the call.
-#[derive(Clone, Copy)]
-pub struct Called {
-    pub reply: Reply,
-    pub state: State,
 }
 
 // What `reset` gives pc and frame 0, and a start frame 0.
@@ -73,116 +54,81 @@ fn write_box(to: &mut [u8], tag: u64, value: u64)
     memory::store::<8>(to, 8, value);
 }
 
+// 13: a kind above 3, or no alignment.
+fn kind_of(kind: u64, align: usize) -> Result<AllocType, Refusal>
+    ensures test { refused_with result ≡ failing (test (ltb kind 4 && is_alignment align) 13 ∷ []) }
+    ensures value { IfOk result (λ k. bits_of k ≡ kind) }
+{
+    if !op::is_alignment(align) {
+        return Err(Refusal::Operand);
+    }
+    AllocType::try_from(kind).or(Err(Refusal::Operand))
+}
+
 impl State {
-    fn refused(self, why: Refusal) -> Called
-        ensures { result ≡ refused_by why self }
+    pub fn set_pc(&mut self, pc: usize)
+        ensures { (l : Lent) → told done self.new l ≡ perform (setting (put_pc pc)) (machine_of self.old l) }
     {
-        Called {
-            reply: Reply::Refused(why),
-            state: self,
-        }
+        self.pc = pc;
     }
 
-    // The reply to an allocation.
-    fn allocated(self, block: Option<u64>) -> Called
-        ensures { result ≡ allocated_in self block }
-    {
-        match block {
-            Some(address) => Called {
-                reply: Reply::Value(address),
-                state: self,
-            },
-            None => self.refused(Refusal::Memory),
-        }
-    }
-
-    pub fn set_pc(self, pc: usize) -> State
-        ensures { (l : Lent) → record { answer = done; machine = machine_of result l } ≡ perform (setting (put_pc pc)) (machine_of self l) }
-    {
-        let mut state = self;
-        state.pc = pc;
-        state
-    }
-
-    pub fn set_register(self, register: usize, value: u64) -> Called
-        ensures { (l : Lent) → told result l ≡ perform (setting (put_reg register value)) (machine_of self l) }
+    pub fn set_register(&mut self, register: usize, value: u64) -> Result<(), Refusal>
+        ensures { (l : Lent)
+            → told (answer_by (λ _. done) result) self.new l
+            ≡ perform (setting (put_reg register value)) (machine_of self.old l) }
     {
         if REGISTER_COUNT <= register {
-            return self.refused(Refusal::Operand);
+            return Err(Refusal::Operand);
         }
-        let mut state = self;
-        let mut regs = state.regs;
-        regs[register] = value;
-        state.regs = regs;
-        Called {
-            reply: Reply::Done,
-            state,
-        }
+        self.regs[register] = value;
+        Ok(())
     }
 
     // pc and frame 0 unset, and depth 1; registers, heap and names stay.
-    pub fn reset(self, frames: &mut [u64]) -> Called
+    pub fn reset(&mut self, frames: &mut [u64]) -> Result<(), Refusal>
         ensures { (l : Lent)
-            → told result (lend_frames frames.new l) ≡ perform (setting reset) (machine_of self (lend_frames frames.old l)) }
+            → told (answer_by (λ _. done) result) self.new (lend_frames frames.new l)
+            ≡ perform (setting reset) (machine_of self.old (lend_frames frames.old l)) }
     {
         if !lent::frames_ok(frames.len()) {
-            return self.refused(Refusal::Size);
+            return Err(Refusal::Size);
         }
         frames[0] = UNSET;
-        let mut state = self;
-        state.pc = UNSET as usize;
-        state.depth = 1;
-        Called {
-            reply: Reply::Done,
-            state,
-        }
+        self.pc = UNSET as usize;
+        self.depth = 1;
+        Ok(())
     }
 
     // A block of `size` bytes and a kind; its alignment is tested and changes nothing.
-    pub fn allocate(self, kind: u64, align: usize, size: u64, heap: &mut [u8]) -> Called
+    pub fn allocate(
+        &mut self,
+        kind: u64,
+        align: usize,
+        size: u64,
+        heap: &mut [u8],
+    ) -> Result<u64, Refusal>
         ensures { (l : Lent)
-            → told result (lend_heap heap.new l) ≡ perform (host (allocate kind align size)) (machine_of self (lend_heap heap.old l)) }
+            → told (answer_by value result) self.new (lend_heap heap.new l)
+            ≡ perform (host (allocate kind align size)) (machine_of self.old (lend_heap heap.old l)) }
     {
-        let gc = self.gc;
-        if !lent::heap_ok(gc.base, heap.len()) {
-            return self.refused(Refusal::Size);
-        }
-        let Ok(kind) = AllocType::try_from(kind) else {
-            return self.refused(Refusal::Operand);
-        };
-        if !op::is_alignment(align) {
-            return self.refused(Refusal::Operand);
-        }
-        if !gc.sound(heap.len()) {
-            return self.refused(Refusal::State);
-        }
-        let mut state = self;
-        let block = state.gc.alloc(Metadata::new(kind, false, size), heap);
-        state.allocated(block)
+        lent::heap_fits(self.gc, heap)?;
+        let kind = kind_of(kind, align)?;
+        lent::pages_belong(self.gc, heap)?;
+        let header = Metadata::new(kind, false, size);
+        self.gc.alloc(header, heap).ok_or(Refusal::Memory)
     }
 
-    pub fn new_option(self, value: Opt, heap: &mut [u8]) -> Called
+    pub fn new_option(&mut self, payload: Option<u64>, heap: &mut [u8]) -> Result<u64, Refusal>
         ensures { (l : Lent)
-            → told result (lend_heap heap.new l) ≡ perform (host (option (option_of value))) (machine_of self (lend_heap heap.old l)) }
+            → told (answer_by value result) self.new (lend_heap heap.new l)
+            ≡ perform (host (option payload)) (machine_of self.old (lend_heap heap.old l)) }
     {
-        let gc = self.gc;
-        if !lent::heap_ok(gc.base, heap.len()) {
-            return self.refused(Refusal::Size);
-        }
-        if !gc.sound(heap.len()) {
-            return self.refused(Refusal::State);
-        }
-        match value {
+        lent::heap_fits(self.gc, heap)?;
+        lent::pages_belong(self.gc, heap)?;
+        match payload {
             // the box that the start made
-            Opt::None => Called {
-                reply: Reply::Value(gc.base + 16),
-                state: self,
-            },
-            Opt::Some(v) => {
-                let mut state = self;
-                let block = boxed(&mut state.gc, 1, v, heap);
-                state.allocated(block)
-            }
+            None => Ok(self.gc.base + 16),
+            Some(v) => boxed(&mut self.gc, 1, v, heap).ok_or(Refusal::Memory),
         }
     }
 }

@@ -3,11 +3,12 @@ ghost use Rattle.std.specs.Prelude.{◌≡◌, ◌+◌, ◌^◌, ◌≤◌, leng
 ghost use Rattle.gc.specs.Lent.{page_size};
 ghost use Rattle.program.specs.Words.{image_in};
 ghost use Rattle.vm.specs.Machine.{Lent, lend_begin, blank, begin, start};
-ghost use Rattle.vm.specs.Told.{lent_of, machine_of, told, started_on};
+ghost use Rattle.vm.specs.Told.{lent_of, machine_of, start_told, started_on};
 
-use crate::{Called, Reply, State, UNSET, boxed, lent};
+use crate::{State, UNSET, boxed, lent};
+use anomaly::Refusal;
 use gc::Gc;
-use program::loader;
+use program::Image;
 use str_table::StrTable;
 
 // A state that has nothing in use.
@@ -52,18 +53,16 @@ pub fn start(
     heap: &mut [u8],
     slots: &[u64],
     spare: &[u64],
-) -> Called
-    ensures { told result (lent_of frames.new heap.new slots.now spare.now)
+) -> Result<State, Refusal>
+    ensures { start_told result base (lent_of frames.new heap.new slots.now spare.now)
         ≡ started_on (start (image_in image.now) base (lent_of frames.old heap.old slots.now spare.now)) base
         (lent_of frames.old heap.old slots.now spare.now) }
 {
     let sizes = lent::frames_ok(frames.len())
         & (lent::heap_ok(base, heap.len()) & lent::slots_ok(slots.len(), spare.len()));
-    match loader::check(sizes, image) {
-        Ok(()) => Called {
-            reply: Reply::Done,
-            state: begin(base, frames, heap),
-        },
-        Err(why) => blank(base).refused(why),
+    if !sizes {
+        return Err(Refusal::Size);
     }
+    Image::load(image)?;
+    Ok(begin(base, frames, heap))
 }

@@ -1,57 +1,63 @@
 -- `casts_and_memory` meets its contract: each arm is its row of the table. Assumes nothing.
+use Rattle.std.proofs.Common.{◌≡◌, ℕ, ◌%◌, arith, rules}
+use Rattle.gc.specs.declared.AllocType.{AllocType}
+use Rattle.op.specs.declared.Op.TheVariants as op
 use Rattle.op.specs.Decode.{rows, decoded_by, decode_of}
-use Rattle.std.proofs.Common.{◌≡◌, ◌%◌, arith}
-use Rattle.op.proofs.Masks.{bare, one-register, two_and_number, two-registers}
+use Rattle.decoder.proofs.Mapped.{mapped}
 use Rattle.decoder.proofs.casts_and_memory.Goals as goal
 
 pub returns-in-50 : goal.returns-in-50
 unfolding rows decoded_by decode_of
-returns-in-50 c = rw (c.in-50.is, c.checked.ensures, c.fits.ensures, two-registers, c.byte_one.ensures, c.byte_two.ensures)
+returns-in-50 c =
+    rw c.in-50.is (mapped _ _ _ (λ (v : ℕ × ℕ). op.CastToInt v.0 v.1) _ _ c.two.ensures c.map.ensures.cases (λ y o p. search rules))
 
 pub returns-in-51 : goal.returns-in-51
 unfolding rows decoded_by decode_of
 returns-in-51 c =
-    rw (c.in-51.is, c.checked-in-51.ensures, c.fits-in-51.ensures, two-registers, c.byte_one-in-51.ensures, c.byte_two-in-51.ensures)
+    rw c.in-51.is (mapped _ _ _ (λ (v : ℕ × ℕ). op.CastToDouble v.0 v.1) _ _ c.two-in-51.ensures c.map-in-51.ensures.cases (λ y o p. search rules))
 
 pub returns-in-52 : goal.returns-in-52
 unfolding rows decoded_by decode_of
 returns-in-52 c =
-    rw (c.in-52.is, c.checked-in-52.ensures, c.fits-in-52.ensures, two-registers, c.byte_one-in-52.ensures, c.byte_two-in-52.ensures)
+    rw c.in-52.is (mapped _ _ _ (λ (v : ℕ × ℕ). op.CastToBool v.0 v.1) _ _ c.two-in-52.ensures c.map-in-52.ensures.cases (λ y o p. search rules))
 
 pub returns-in-53 : goal.returns-in-53
 unfolding rows decoded_by decode_of
 returns-in-53 c =
-    rw (c.in-53.is, c.checked-in-53.ensures, c.fits_alloc.ensures, c.byte_one-in-53.ensures, c.byte_two-in-53.ensures, c.upper.ensures, c.byte_three.ensures)
+    rw c.in-53.is (mapped _ _ _ (λ (v : ℕ × AllocType × ℕ × ℕ). op.Alloc v.0 v.1 v.2 v.3) _ _ c.alloc.ensures c.map-in-53.ensures.cases (λ y o p. search rules))
 
 pub returns-in-54 : goal.returns-in-54
 unfolding rows decoded_by decode_of
 returns-in-54 c =
-    rw (c.in-54.is, c.checked-in-54.ensures, c.fits-in-54.ensures, two_and_number, c.byte_one-in-54.ensures, c.upper-in-54.ensures, c.byte_two-in-54.ensures)
+    rw c.in-54.is (mapped _ _ _ (λ (v : ℕ × ℕ × ℕ). op.Store v.0 v.2 v.1) _ _ c.two_and_number.ensures c.map-in-54.ensures.cases (λ y o p. search rules))
 
 pub returns-in-55 : goal.returns-in-55
 unfolding rows decoded_by decode_of
 returns-in-55 c =
-    rw (c.in-55.is, c.checked-in-55.ensures, c.fits-in-55.ensures, two_and_number, c.byte_one-in-55.ensures, c.byte_two-in-55.ensures, c.upper-in-55.ensures)
+    rw c.in-55.is (mapped _ _ _ (λ (v : ℕ × ℕ × ℕ). op.Load v.0 v.1 v.2) _ _ c.two_and_number-in-55.ensures c.map-in-55.ensures.cases (λ y o p. search rules))
 
 pub returns-in-56 : goal.returns-in-56
 unfolding rows decoded_by decode_of
 returns-in-56 c =
-    rw (c.in-56.is, c.checked-in-56.ensures, c.fits-in-56.ensures, two_and_number, c.byte_one-in-56.ensures, c.byte_two-in-56.ensures, c.upper-in-56.ensures)
+    rw c.in-56.is (mapped _ _ _ (λ (v : ℕ × ℕ × ℕ). op.AddrOf v.0 v.1 v.2) _ _ c.two_and_number-in-56.ensures c.map-in-56.ensures.cases (λ y o p. search rules))
 
 pub returns-in-57 : goal.returns-in-57
 unfolding rows decoded_by decode_of
-returns-in-57 c = rw (c.in-57.is, c.checked-in-57.ensures, c.fits-in-57.ensures, bare)
+returns-in-57 c =
+    rw c.in-57.is (mapped _ _ _ (λ (v : Unit {0}). op.Ret) _ _ c.bare.ensures c.map-in-57.ensures.cases (λ y o p. search rules))
 
 pub returns-in-58 : goal.returns-in-58
 unfolding rows decoded_by decode_of
-returns-in-58 c = rw (c.in-58.is, c.checked-in-58.ensures, c.fits-in-58.ensures, one-register, c.byte_one-in-58.ensures)
+returns-in-58 c =
+    rw c.in-58.is (mapped _ _ _ op.Assert _ _ c.condition.ensures c.map-in-58.ensures.cases (λ y o p. search rules))
 
 pub returns-in-59 : goal.returns-in-59
 unfolding rows decoded_by decode_of
-returns-in-59 c = rw (c.in-59.is, c.checked-in-59.ensures, c.fits-in-59.ensures, bare)
+returns-in-59 c =
+    rw c.in-59.is (mapped _ _ _ (λ (v : Unit {0}). op.Halt) _ _ c.bare-in-59.ensures c.map-in-59.ensures.cases (λ y o p. search rules))
 
 pub returns-in_default : goal.returns-in_default
 unfolding rows decoded_by decode_of
 returns-in_default c =
     let place : c.args.w % 256 ≡ 60 = omega arith in
-    rw (place, c.checked-in_default.ensures, c.fits-in_default.ensures, bare)
+    rw place (mapped _ _ _ (λ (v : Unit {0}). op.Nop) _ _ c.bare-in_default.ensures c.map-in_default.ensures.cases (λ y o p. search rules))

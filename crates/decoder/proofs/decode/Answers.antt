@@ -2,6 +2,7 @@
 use Rattle.std.proofs.Common.{arith}
 use Rattle.op.proofs.Rows.{refused-between, refused_above}
 use Rattle.decoder.proofs.decode.Goals as goal
+use Rattle.decoder.proofs.decode.Goals.{in_default-via-then-opcode-lt50, in_default-via-else-opcode-lt50+else-opcode-lt61}
 
 pub returns-in-0-to-11 : goal.returns-in-0-to-11
 returns-in-0-to-11 c = c.integer_arithmetic.ensures
@@ -16,7 +17,8 @@ pub returns-in-50-to-60 : goal.returns-in-50-to-60
 returns-in-50-to-60 c = c.casts_and_memory.ensures
 
 pub returns-in_default : goal.returns-in_default
-returns-in_default c = refused-between c.args.w (omega arith) (omega arith)
-
-pub returns-in_default-2 : goal.returns-in_default-2
-returns-in_default-2 c = refused_above c.args.w (omega arith)
+returns-in_default c =
+    elim c.in_default.branch [
+      | in_default-via-then-opcode-lt50 w ↦ refused-between c.args.w (omega arith) (omega arith)
+      | in_default-via-else-opcode-lt50+else-opcode-lt61 w ↦ refused_above c.args.w (omega arith)
+    ]

@@ -1,14 +1,12 @@
 -- `girzhanok::girzhanok_option` meets its contract. Assumes nothing.
 use Rattle.girzhanok.proofs.Serving.{too_short, served}
-use native.Mathlib.Omega.{arith}
 use Rattle.girzhanok.proofs.girzhanok_option.Goals as goal
 
-pub returns-then-state-lt-STATE_WORDS : goal.returns-then-state-lt-STATE_WORDS
-returns-then-state-lt-STATE_WORDS c = λ l. too_short _ _ _ _ (omega arith)
+pub returns-in_default : goal.returns-in_default
+returns-in_default c = λ l. too_short _ _ _ _ c.in_default.ensures.cases
 
 pub returns : goal.returns
 returns c =
     λ l.
-    served _ _ _ _ c.if-state-lt-STATE_WORDS.false _ c.unpack.ensures _
-    (rw c.opt.ensures at (c.new_option-called.ensures l)) _ _ _ c.answer_value.ensures.0
-    c.answer_value.ensures.1 c.answer_value.ensures.2
+    let told = c.answer_value.ensures in
+    served _ _ _ _ _ c.in-Some.ensures.cases _ c.unpack-machine.ensures _ (rw c.then_some.ensures at (c.new_option-called.ensures l)) _ _ _ told.number told.kept told.answered

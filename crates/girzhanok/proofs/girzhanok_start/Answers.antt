@@ -1,11 +1,15 @@
 -- `girzhanok::girzhanok_start` meets its contract. Assumes nothing.
+use mathlib.Core.Path.{refl}
+use Rattle.vm.specs.Machine.{blank}
 use Rattle.girzhanok.proofs.Serving.{start-short, start_served}
-use native.Mathlib.Omega.{arith}
 use Rattle.girzhanok.proofs.girzhanok_start.Goals as goal
 
-pub returns-then-state-lt-STATE_WORDS : goal.returns-then-state-lt-STATE_WORDS
-returns-then-state-lt-STATE_WORDS c = start-short _ _ _ _ (omega arith)
+pub returns-in_default : goal.returns-in_default
+returns-in_default c = start-short _ _ _ _ c.in_default.ensures.cases
 
-pub returns : goal.returns
-returns c =
-    start_served _ _ _ _ c.if-state-lt-STATE_WORDS.false _ c.start-called.ensures _ _ c.answer.ensures.0 c.answer.ensures.1
+pub returns-in-Ok : goal.returns-in-Ok
+returns-in-Ok c = start_served _ _ _ _ _ c.in-Some.ensures.cases _ c.in-Ok.ensures _ _ c.answer.ensures.number c.answer.ensures.kept
+
+pub returns-in-Err : goal.returns-in-Err
+unfolding blank
+returns-in-Err c = start_served _ _ _ _ _ c.in-Some.ensures.cases _ c.in-Err.ensures _ _ c.number.ensures refl

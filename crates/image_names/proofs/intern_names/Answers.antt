@@ -2,9 +2,10 @@
 use mathlib.Core.Path.{refl, sym}
 use lib.Seq.{length-take-le}
 use native.Mathlib.Omega.{arith}
+use Rattle.std.proofs.lemmas.Result.{err_from_is_err_and}
 use Rattle.vm.specs.Machine.{Lent, lend_names}
-use Rattle.vm.specs.Told.{said_of, told}
-use Rattle.image_names.proofs.Interning.{interning_first, interning_next, interned_all, interned_some, bytes-there, bytes_back, global-there, not_value}
+use Rattle.vm.specs.Told.{machine_of}
+use Rattle.image_names.proofs.Interning.{interning_first, interning_next, interned_all, interned_some, bytes-there, bytes_back, global-there}
 use Rattle.image_names.proofs.intern_names.Goals as goal
 
 pub loop-named-init : goal.loop-named-init
@@ -22,13 +23,14 @@ slice_bounds-intern-end-in-loop-named c =
     let inv = c.loop-named.invariant in
     sym (length-take-le _ _ (bytes-there inv.2 c.in-Some.ensures.steps c.requires.0 _ (omega arith) c.put_bytes-len.ensures.0 c.put_bytes-len.ensures.1))
 
-pub returns-in_default : goal.returns-in_default
-returns-in_default c =
+pub returns-in_err-globals : goal.returns-in_err-globals
+returns-in_err-globals c =
     let inv = c.loop-named.invariant in
-    interned_some inv.2 c.in-Some.ensures.steps
-    (bytes_back inv.2 c.in-Some.ensures.steps c.requires.0 _ (omega arith) c.put_bytes-len.ensures.0 c.put_bytes-len.ensures.1)
-    (λ (l : Lent). told c.intern-called.result (lend_names _ _ _ l)) c.intern-called.ensures
-    (λ f. not_value _ c.in_default.not-Value)
+    let p = err_from_is_err_and c.from_residual.result c.from_residual.ensures.1 in
+    rw (p.1, p.2)
+    (interned_some inv.2 c.in-Some.ensures.steps
+    (bytes_back inv.2 c.in-Some.ensures.steps c.requires.0 _ (omega arith) c.put_bytes-len.ensures.0 c.put_bytes-len.ensures.1) _
+    (λ (l : Lent). machine_of c.intern.new.state (lend_names _ _ _ l)) c.in_err-globals.ensures)
 
 pub offset_bounds-globals-named : goal.offset_bounds-globals-named
 offset_bounds-globals-named c = omega (arith, global-there c.loop-named.invariant.2 c.in-Some.ensures.steps c.requires.1)
@@ -40,8 +42,7 @@ pub loop-named-preserved : goal.loop-named-preserved
 loop-named-preserved c =
     let inv = c.loop-named.invariant in
     let back = bytes_back inv.2 c.in-Some.ensures.steps c.requires.0 _ (omega arith) c.put_bytes-len.ensures.0 c.put_bytes-len.ensures.1 in
-    (tt, tt, interning_next inv.2 c.in-Some.ensures.steps back c.in-Value.is _ c.intern-called.ensures, cc, cc, cc, cc)
+    (tt, tt, interning_next inv.2 c.in-Some.ensures.steps back _ _ c.in_ok-globals.ensures, cc, cc, cc, cc)
 
 pub returns : goal.returns
-unfolding said_of
 returns c = interned_all c.loop-named.invariant.2 c.in-None.ensures.steps.0

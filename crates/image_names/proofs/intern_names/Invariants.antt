@@ -10,7 +10,7 @@ use Rattle.image_names.proofs.intern_names.Given as goal
 abbrev pub invariant-loop-named : goal.invariant-loop-named
 invariant-loop-named l =
     (goal.iterator-loop-named).can_next l.named-iterator × (goal.iterator-loop-named).is_finite l.named-iterator
-    × Interning l.input (λ (t : Lent). machine_of l.initial.s (lend_names l.initial.heap l.initial.slots l.initial.spare t)) l.initial.globals
-    (names_left l.named-iterator) (λ (t : Lent). machine_of l.s (lend_names l.heap l.slots l.spare t)) l.globals
+    × Interning l.input (λ (t : Lent). machine_of l.initial.state (lend_names l.initial.heap l.initial.slots l.initial.spare t)) l.initial.globals
+    (names_left l.named-iterator) (λ (t : Lent). machine_of l.state (lend_names l.heap l.slots l.spare t)) l.globals
     × (length l.heap ≡ length l.initial.heap) × (length l.slots ≡ length l.initial.slots)
     × (length l.spare ≡ length l.initial.spare) × (length l.name ≡ length l.initial.name)

@@ -1,21 +1,17 @@
 -- `instruction::alloc` meets its contract. Assumes nothing.
 use Rattle.std.proofs.Common.{sym}
-use Rattle.gc.proofs.Types.{type_found, ok_said}
 use Rattle.vm.specs.Machine.{lend_heap}
 use Rattle.instruction.proofs.Turns.{turn_no_block, turn-block}
 use Rattle.instruction.proofs.alloc.Goals as goal
-
-pub unwrap-kind-requires : goal.unwrap-kind-requires
-unwrap-kind-requires c = type_found _ _ c.requires.1 c.try_from.ensures
 
 pub returns-in_default : goal.returns-in_default
 returns-in_default c =
     λ s l fit. sym
     (turn_no_block s _ _ (lend_heap _ l) fit _ _ _ _ _ _
-    (rw (c.new.ensures.0, c.new.ensures.1, (ok_said _ _ _ c.unwrap-kind.ensures c.try_from.ensures).0) at c.alloc.ensures) c.in_default.is)
+    (rw (c.new.ensures.0, c.new.ensures.1) at c.alloc.ensures) c.in_default.is)
 
 pub returns : goal.returns
 returns c =
-    λ s l fit. sym
+    λ s l fit. rw c.write.ensures (sym
     (turn-block s _ _ (lend_heap _ l) fit _ _ _ _ _ _
-    (rw (c.new.ensures.0, c.new.ensures.1, (ok_said _ _ _ c.unwrap-kind.ensures c.try_from.ensures).0) at c.alloc.ensures) _ c.in-Some.is)
+    (rw (c.new.ensures.0, c.new.ensures.1) at c.alloc.ensures) _ c.in-Some.is))

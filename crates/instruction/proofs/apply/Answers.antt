@@ -1,11 +1,8 @@
 -- `instruction::apply` meets its contract. Assumes nothing.
-use Rattle.std.proofs.Common.{sym}
+use Rattle.std.proofs.Common.{sym, ◌∙◌}
 use Rattle.vm.specs.Machine.{lend_frames, lend_heap, lend_run, unlent}
 use Rattle.instruction.proofs.Turns.{turn_skip, turn_goto, turn-stop, turn-halt}
 use Rattle.instruction.proofs.apply.Goals as goal
-
-pub set-requires : goal.set-requires
-set-requires c = (rw c.in-Set.is at c.requires.0, c.requires.1)
 
 pub call-requires : goal.call-requires
 call-requires c = (c.requires.2 unlent).deep
@@ -14,13 +11,13 @@ pub ret-requires : goal.ret-requires
 ret-requires c = (c.requires.2 unlent).deep
 
 pub load-requires : goal.load-requires
-load-requires c = (rw c.in-Load.is at c.requires.0, c.requires.1, (c.requires.2 unlent).sound)
+load-requires c = (c.requires.1, (c.requires.2 unlent).sound)
 
 pub store-requires : goal.store-requires
 store-requires c = (c.requires.1, (c.requires.2 unlent).sound)
 
 pub alloc-requires : goal.alloc-requires
-alloc-requires c = let there = rw c.in-Alloc.is at c.requires.0 in (there.0, there.1, c.requires.1, (c.requires.2 unlent).sound)
+alloc-requires c = (c.requires.1, (c.requires.2 unlent).sound)
 
 pub returns-in-Set : goal.returns-in-Set
 returns-in-Set c = λ s l. rw c.in-Set.is (c.set.ensures s (lend_run _ _ l) (c.requires.2 l))
@@ -46,8 +43,11 @@ returns-in-Store c = λ s l. rw c.in-Store.is (c.store.ensures s _ (lend_frames 
 pub returns-in-Alloc : goal.returns-in-Alloc
 returns-in-Alloc c = λ s l. rw c.in-Alloc.is (c.alloc.ensures s (lend_frames _ l) (c.requires.2 l))
 
+pub stop-requires : goal.stop-requires
+stop-requires c = rw c.in-Stop.is at c.requires.0
+
 pub returns-in-Stop : goal.returns-in-Stop
-returns-in-Stop c = λ s l. rw c.in-Stop.is (sym (turn-stop s _ _ (lend_run _ _ l) (c.requires.2 l) _))
+returns-in-Stop c = λ s l. rw c.in-Stop.is (c.stop.ensures s _ _ _ ∙ sym (turn-stop s _ _ (lend_run _ _ l) (c.requires.2 l) _))
 
 pub returns-in-Halt : goal.returns-in-Halt
 returns-in-Halt c = λ s l. rw c.in-Halt.is (sym (turn-halt s _ _ (lend_run _ _ l) (c.requires.2 l)))

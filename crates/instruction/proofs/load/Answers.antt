@@ -5,7 +5,7 @@ use Rattle.instruction.proofs.Turns.{place_room, turn_load_outside, turn_load}
 use Rattle.instruction.proofs.load.Goals as goal
 
 pub reach-requires : goal.reach-requires
-reach-requires c = omega (arith, c.requires.2.low, c.requires.2.in_heap)
+reach-requires c = omega (arith, c.requires.1.low, c.requires.1.in_heap)
 
 pub returns-in_default : goal.returns-in_default
 returns-in_default c =
@@ -13,9 +13,9 @@ returns-in_default c =
     (turn_load_outside s _ _ (lend_heap _ l) fit _ _ (sym c.reach.ensures ∙ c.in_default.is) _)
 
 pub load-requires : goal.load-requires
-load-requires c = omega (arith, c.requires.2.in_heap, place_room _ _ _ (sym c.reach.ensures ∙ c.in-At.is))
+load-requires c = omega (arith, c.requires.1.in_heap, place_room _ _ _ (sym c.reach.ensures ∙ c.in-Some.is))
 
 pub returns : goal.returns
 returns c =
-    λ s l fit. rw (c.to.ensures, c.load.ensures.value)
-    (sym (turn_load s _ _ (lend_heap _ l) fit _ _ _ (sym c.reach.ensures ∙ c.in-At.is) _))
+    λ s l fit. rw (c.to.ensures, c.write.ensures, c.load.ensures.value)
+    (sym (turn_load s _ _ (lend_heap _ l) fit _ _ _ (sym c.reach.ensures ∙ c.in-Some.is) _))

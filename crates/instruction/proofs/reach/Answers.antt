@@ -12,14 +12,14 @@ overflow_add-address c = let low = both_low c.args.base c.args.offset c.if-base-
 pub returns-then-pushed-at : goal.returns-then-pushed-at
 returns-then-pushed-at c =
     let low = both_low c.args.base c.args.offset c.if-base-offset.false in place_past _ _ _ (omega arith)
-    c.wrapping_sub_u64-at.ensures.value (omega (arith, low.0, low.1)) (omega arith) c.if-pushed-at.true (omega (arith, c.requires))
+    (omega arith) (omega (arith, low.0, low.1)) (omega arith) c.if-pushed-at.true (omega (arith, c.requires))
 
 pub returns-then-address-pushed : goal.returns-then-address-pushed
 returns-then-address-pushed c =
     let low = both_low c.args.base c.args.offset c.if-base-offset.false in place_is _ _ _ (omega arith)
-    c.wrapping_sub_u64-at.ensures.value (omega (arith, low.0, low.1)) (omega arith) c.requires c.if-pushed-at.false true c.if-address-pushed.true
+    (omega arith) (omega (arith, low.0, low.1)) (omega arith) c.requires c.if-pushed-at.false true c.if-address-pushed.true
 
 pub returns : goal.returns
 returns c =
     let low = both_low c.args.base c.args.offset c.if-base-offset.false in place_is _ _ _ (omega arith)
-    c.wrapping_sub_u64-at.ensures.value (omega (arith, low.0, low.1)) (omega arith) c.requires c.if-pushed-at.false false c.if-address-pushed.false
+    (omega arith) (omega (arith, low.0, low.1)) (omega arith) c.requires c.if-pushed-at.false false c.if-address-pushed.false

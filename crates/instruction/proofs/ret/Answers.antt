@@ -10,4 +10,4 @@ returns-then-at-eq0 c = λ s regs l fit. sym (turn_underflow s _ regs (lend_fram
 pub returns : goal.returns
 returns c =
     let deeper : c.args.at.depth ≡ suc (c.args.at.depth - 1) = omega (arith, c.if-at-eq0.false) in
-    λ s regs l fit. rw c.wrapping_add_u64.ensures.value (sym (turn_ret s _ regs (lend_frames _ l) fit _ deeper))
+    λ s regs l fit. sym (turn_ret s _ regs (lend_frames _ l) fit _ deeper)

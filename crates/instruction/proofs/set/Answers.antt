@@ -4,4 +4,4 @@ use Rattle.instruction.proofs.Turns.{turn-set}
 use Rattle.instruction.proofs.set.Goals as goal
 
 pub returns : goal.returns
-returns c = λ s l fit. rw c.to.ensures (sym (turn-set s _ _ l fit _ _))
+returns c = λ s l fit. rw (c.to.ensures, c.write.ensures) (sym (turn-set s _ _ l fit _ _))

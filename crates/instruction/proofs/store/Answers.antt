@@ -13,9 +13,9 @@ returns-in_default c =
     (turn_store_outside s _ regs (lend_heap _ l) fit _ _ (sym c.reach.ensures ∙ c.in_default.is) _)
 
 pub store-requires : goal.store-requires
-store-requires c = omega (arith, c.requires.1.in_heap, place_room _ _ _ (sym c.reach.ensures ∙ c.in-At.is))
+store-requires c = omega (arith, c.requires.1.in_heap, place_room _ _ _ (sym c.reach.ensures ∙ c.in-Some.is))
 
 pub returns : goal.returns
 returns c =
     λ s regs l fit. rw (c.to.ensures, c.store.ensures)
-    (sym (turn_store s _ regs (lend_heap _ l) fit _ _ _ (sym c.reach.ensures ∙ c.in-At.is) _))
+    (sym (turn_store s _ regs (lend_heap _ l) fit _ _ _ (sym c.reach.ensures ∙ c.in-Some.is) _))

@@ -2,4 +2,4 @@
 use Rattle.names.proofs.intern.Goals as goal
 
 pub returns : goal.returns
-returns c = λ l. rw c.interned.ensures (c.intern-i.ensures c.args.state l)
+returns c = λ l. c.intern-value.ensures c.args.state.now l

@@ -2,4 +2,4 @@
 use Rattle.names.proofs.intern_small.Goals as goal
 
 pub returns : goal.returns
-returns c = λ l. rw c.interned.ensures (c.intern_small-i.ensures c.args.state l)
+returns c = λ l. c.intern_small-value.ensures c.args.state.now l

@@ -1,14 +1,13 @@
 -- `answers::words::pack` meets its contract. Assumes nothing.
-use mathlib.Core.Path.{◌≡◌}
-use lib.ListN.{length}
-use Rattle.answers.proofs.Packing.{packed-home}
+use mathlib.Core.Path.{◌≡◌, ◌∙◌}
+use lib.ListN.{length, length-drop}
+use native.Mathlib.Omega.{arith}
 use borrow.Author.Rules.{rules}
+use Rattle.answers.proofs.Packing.{packed-home}
 use Rattle.answers.proofs.words.pack.Goals as goal
 
-pub copy-requires : goal.copy-requires
-copy-requires c =
-    let long : length c.args.state.regs ≡ 32 = search rules in
-    rw long (search rules)
-
 pub returns : goal.returns
-returns c = packed-home _ _ _ _ (search rules) c.requires c.copy.ensures c.copy-2.ensures
+returns c =
+    let long : length c.args.state.regs ≡ 32 = search rules in
+    (rw c.copy_from_slice.ensures.after at c.pack_names.ensures)
+    ∙ packed-home c.args.state _ c.args.words.now long (length-drop 32 c.args.words.now ∙ omega arith) (search rules)

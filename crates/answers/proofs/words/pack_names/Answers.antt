@@ -1,6 +1,7 @@
 -- `answers::words::pack_names` meets its contract. Assumes nothing.
+use borrow.Author.Rules.{rules}
 use Rattle.answers.proofs.Packing.{names-home}
 use Rattle.answers.proofs.words.pack_names.Goals as goal
 
 pub returns : goal.returns
-returns c = names-home _ _ _ _ c.requires c.copy.ensures
+returns c = names-home c.args.words.now _ c.args.names (search rules) c.copy_from_slice.ensures.after

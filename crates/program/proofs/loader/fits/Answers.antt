@@ -5,12 +5,12 @@ use Rattle.program.specs.Words.{fits}
 use Rattle.program.proofs.Layouts.{short}
 use Rattle.program.proofs.loader.fits.Goals as goal
 
-pub returns-then-image-lt-HEADER : goal.returns-then-image-lt-HEADER
-returns-then-image-lt-HEADER c = short _ c.if-image-lt-HEADER.true
+pub returns-then-words-lt-HEADER : goal.returns-then-words-lt-HEADER
+returns-then-words-lt-HEADER c = short _ c.if-words-lt-HEADER.true
 
 pub slice_bounds-rising-end : goal.slice_bounds-rising-end
 slice_bounds-rising-end c =
-    sym (length-take-le 9 c.args.image.now c.if-image-lt-HEADER.false)
+    sym (length-take-le 9 c.args.words.now c.if-words-lt-HEADER.false)
 
 pub returns : goal.returns
 unfolding fits

@@ -1,8 +1,0 @@
--- `answers::words::unpack_heap` meets its contract. Assumes nothing.
-use mathlib.Core.Path.{refl}
-use Rattle.answers.specs.Words.{unpacked}
-use Rattle.answers.proofs.words.unpack_heap.Goals as goal
-
-pub returns : goal.returns
-unfolding unpacked
-returns c = rw (c.size.ensures, c.size-2.ensures, c.size-3.ensures) refl

@@ -1,0 +1,2 @@
+-- Laws of the decoder.
+pub mod Mapped

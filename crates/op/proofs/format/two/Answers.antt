@@ -1,0 +1,19 @@
+-- `op::format::two` meets its contract: its mask says what its parts hold. Assumes nothing.
+use Rattle.std.proofs.Common.{sym, ◌∙◌}
+use Rattle.op.specs.Layout.{parts_of, register, unused}
+use Rattle.op.proofs.Masks.{two-registers}
+use Rattle.op.proofs.Sound.{parts_in}
+use Rattle.op.proofs.Formats.{refuses, gives}
+use Rattle.op.proofs.format.two.Goals as goal
+
+pub returns-then-not-fits : goal.returns-then-not-fits
+returns-then-not-fits c = refuses _ _ (sym (two-registers _) ∙ sym c.fits.ensures ∙ c.if-not-fits.true)
+
+pub new-requires : goal.new-requires
+new-requires c = rw c.byte_one.ensures (parts_in register register unused unused (parts_of c.args.w) (sym (two-registers _) ∙ sym c.fits.ensures ∙ c.if-not-fits.false)).one
+
+pub new-requires-2 : goal.new-requires-2
+new-requires-2 c = rw c.byte_two.ensures (parts_in register register unused unused (parts_of c.args.w) (sym (two-registers _) ∙ sym c.fits.ensures ∙ c.if-not-fits.false)).two
+
+pub returns : goal.returns
+returns c = gives _ _ _ (sym (two-registers _) ∙ sym c.fits.ensures ∙ c.if-not-fits.false) cc

@@ -1,0 +1,221 @@
+// The operands of a word, by the shapes in the picture at the head of the crate; or 13, of a word that has a bit of its shape's mask.
+// Each is for the loop of a run, and the compiler puts it into the arm that asks for it.
+ghost use Rattle.std.specs.Prelude.{◌≡◌, ◌<◌};
+ghost use Rattle.op.specs.Layout.{parts_of, passes, keys_of, kind_of};
+ghost use Rattle.op.specs.Layout.{unused, register, switchKind, allocKind, alignment, anyByte, anyNumber};
+ghost use Rattle.op.specs.Decode.{checked_of};
+
+use crate::word::{
+    BARE, CONDITION, FUNCTION, JUMP, JUMP_IF, JUMP_IMMEDIATE, JUMP_TWO, LOOKUP, ONE_AND_NUMBER,
+    SWITCH, THREE, TWO, TWO_AND_NUMBER, byte_one, byte_three, byte_two, fits, fits_alloc, target,
+    upper, upper_signed,
+};
+use crate::{Keys, Reg};
+use anomaly::Refusal;
+use gc::AllocType;
+
+fn keys(byte: usize) -> Keys
+    ensures { result ≡ keys_of byte }
+{
+    if byte == 0 { Keys::Str } else { Keys::Int }
+}
+
+// Of the two bits that its mask leaves.
+fn kind(byte: usize) -> AllocType
+    requires { byte < 4 }
+    ensures { result ≡ kind_of byte }
+{
+    AllocType::try_from(byte as u64).unwrap()
+}
+
+#[inline(always)]
+pub fn three(w: u64) -> Result<(Reg, Reg, Reg), Refusal>
+    ensures { result
+        ≡ checked_of (passes register register register unused (parts_of w)) ((parts_of w).one, (parts_of w).two, (parts_of w).three) }
+{
+    if !fits(w, THREE) {
+        return Err(Refusal::Operand);
+    }
+    Ok((
+        Reg::new(byte_one(w)),
+        Reg::new(byte_two(w)),
+        Reg::new(byte_three(w)),
+    ))
+}
+
+#[inline(always)]
+pub fn two_and_signed(w: u64) -> Result<(Reg, Reg, u64), Refusal>
+    ensures { result
+        ≡ checked_of (passes register register unused anyNumber (parts_of w)) ((parts_of w).one, (parts_of w).two, (parts_of w).signed) }
+{
+    if !fits(w, TWO_AND_NUMBER) {
+        return Err(Refusal::Operand);
+    }
+    Ok((
+        Reg::new(byte_one(w)),
+        Reg::new(byte_two(w)),
+        upper_signed(w),
+    ))
+}
+
+#[inline(always)]
+pub fn two_and_number(w: u64) -> Result<(Reg, Reg, u64), Refusal>
+    ensures { result
+        ≡ checked_of (passes register register unused anyNumber (parts_of w)) ((parts_of w).one, (parts_of w).two, (parts_of w).number) }
+{
+    if !fits(w, TWO_AND_NUMBER) {
+        return Err(Refusal::Operand);
+    }
+    Ok((
+        Reg::new(byte_one(w)),
+        Reg::new(byte_two(w)),
+        upper(w) as u64,
+    ))
+}
+
+#[inline(always)]
+pub fn two(w: u64) -> Result<(Reg, Reg), Refusal>
+    ensures { result ≡ checked_of (passes register register unused unused (parts_of w)) ((parts_of w).one, (parts_of w).two) }
+{
+    if !fits(w, TWO) {
+        return Err(Refusal::Operand);
+    }
+    Ok((Reg::new(byte_one(w)), Reg::new(byte_two(w))))
+}
+
+#[inline(always)]
+pub fn one_and_signed(w: u64) -> Result<(Reg, u64), Refusal>
+    ensures { result ≡ checked_of (passes register unused unused anyNumber (parts_of w)) ((parts_of w).one, (parts_of w).signed) }
+{
+    if !fits(w, ONE_AND_NUMBER) {
+        return Err(Refusal::Operand);
+    }
+    Ok((Reg::new(byte_one(w)), upper_signed(w)))
+}
+
+#[inline(always)]
+pub fn one_and_number(w: u64) -> Result<(Reg, usize), Refusal>
+    ensures { result ≡ checked_of (passes register unused unused anyNumber (parts_of w)) ((parts_of w).one, (parts_of w).number) }
+{
+    if !fits(w, ONE_AND_NUMBER) {
+        return Err(Refusal::Operand);
+    }
+    Ok((Reg::new(byte_one(w)), upper(w)))
+}
+
+#[inline(always)]
+pub fn jump(w: u64) -> Result<usize, Refusal>
+    ensures { result ≡ checked_of (passes unused anyByte anyByte unused (parts_of w)) (parts_of w).target }
+{
+    if !fits(w, JUMP) {
+        return Err(Refusal::Operand);
+    }
+    Ok(target(w))
+}
+
+#[inline(always)]
+pub fn jump_if(w: u64) -> Result<(Reg, usize), Refusal>
+    ensures { result ≡ checked_of (passes register anyByte anyByte unused (parts_of w)) ((parts_of w).one, (parts_of w).target) }
+{
+    if !fits(w, JUMP_IF) {
+        return Err(Refusal::Operand);
+    }
+    Ok((Reg::new(byte_one(w)), target(w)))
+}
+
+#[inline(always)]
+pub fn jump_immediate(w: u64) -> Result<(Reg, u64, usize), Refusal>
+    ensures { result
+        ≡ checked_of (passes register anyByte anyByte anyNumber (parts_of w)) ((parts_of w).one, (parts_of w).signed, (parts_of w).target) }
+{
+    if !fits(w, JUMP_IMMEDIATE) {
+        return Err(Refusal::Operand);
+    }
+    Ok((Reg::new(byte_one(w)), upper_signed(w), target(w)))
+}
+
+#[inline(always)]
+pub fn jump_two(w: u64) -> Result<(Reg, Reg, usize), Refusal>
+    ensures { result
+        ≡ checked_of (passes register anyByte anyByte register (parts_of w)) ((parts_of w).one, (parts_of w).number, (parts_of w).target) }
+{
+    if !fits(w, JUMP_TWO) {
+        return Err(Refusal::Operand);
+    }
+    Ok((Reg::new(byte_one(w)), Reg::new(upper(w)), target(w)))
+}
+
+#[inline(always)]
+pub fn switch(w: u64) -> Result<(Keys, Reg, usize), Refusal>
+    ensures { result
+        ≡ checked_of (passes switchKind register unused anyNumber (parts_of w)) (keys_of (parts_of w).one, (parts_of w).two, (parts_of w).number) }
+{
+    if !fits(w, SWITCH) {
+        return Err(Refusal::Operand);
+    }
+    Ok((keys(byte_one(w)), Reg::new(byte_two(w)), upper(w)))
+}
+
+#[inline(always)]
+pub fn lookup(w: u64) -> Result<(Keys, Reg, Reg, usize), Refusal>
+    ensures { result
+        ≡ checked_of (passes register register switchKind anyNumber (parts_of w))
+        (keys_of (parts_of w).three, (parts_of w).one, (parts_of w).two, (parts_of w).number) }
+{
+    if !fits(w, LOOKUP) {
+        return Err(Refusal::Operand);
+    }
+    Ok((
+        keys(byte_three(w)),
+        Reg::new(byte_one(w)),
+        Reg::new(byte_two(w)),
+        upper(w),
+    ))
+}
+
+#[inline(always)]
+pub fn function(w: u64) -> Result<usize, Refusal>
+    ensures { result ≡ checked_of (passes unused unused unused anyNumber (parts_of w)) (parts_of w).number }
+{
+    if !fits(w, FUNCTION) {
+        return Err(Refusal::Operand);
+    }
+    Ok(upper(w))
+}
+
+#[inline(always)]
+pub fn alloc(w: u64) -> Result<(Reg, AllocType, u64, u64), Refusal>
+    ensures { result
+        ≡ checked_of (passes register allocKind alignment anyNumber (parts_of w))
+        ((parts_of w).one, kind_of (parts_of w).two, (parts_of w).number, (parts_of w).three) }
+{
+    if !fits_alloc(w) {
+        return Err(Refusal::Operand);
+    }
+    Ok((
+        Reg::new(byte_one(w)),
+        kind(byte_two(w)),
+        upper(w) as u64,
+        byte_three(w) as u64,
+    ))
+}
+
+#[inline(always)]
+pub fn condition(w: u64) -> Result<Reg, Refusal>
+    ensures { result ≡ checked_of (passes register unused unused unused (parts_of w)) (parts_of w).one }
+{
+    if !fits(w, CONDITION) {
+        return Err(Refusal::Operand);
+    }
+    Ok(Reg::new(byte_one(w)))
+}
+
+#[inline(always)]
+pub fn bare(w: u64) -> Result<(), Refusal>
+    ensures { result ≡ checked_of (passes unused unused unused unused (parts_of w)) tt }
+{
+    if !fits(w, BARE) {
+        return Err(Refusal::Operand);
+    }
+    Ok(())
+}
