@@ -5,14 +5,14 @@ ghost use Rattle.effects.specs.Effect.{within, slot, switched};
 
 use crate::{Effect, Stop};
 use op::{Keys, Reg};
-use program::Image;
+use program::Tables;
 use string::ALIGN;
 
 #[tactic(auto, unfolding(crate::specs::Effect::within))]
-pub fn load_global(dst: Reg, idx: usize, image: &Image) -> Effect
-    ensures { result ≡ within idx (length image.now.globals) (Effect.Set dst (slice_index image.now.globals idx)) }
+pub fn load_global(dst: Reg, idx: usize, globals: &[u64]) -> Effect
+    ensures { result ≡ within idx (length globals.now) (Effect.Set dst (slice_index globals.now idx)) }
 {
-    match image.globals().get(idx) {
+    match globals.get(idx) {
         Some(&value) => Effect::Set { dst, value },
         None => Effect::Stop(Stop::Unlisted),
     }
@@ -31,12 +31,12 @@ fn slot(keys: Keys, subject: u64, first: u64) -> u64
 }
 
 #[tactic(auto, unfolding(crate::specs::Effect::within, crate::specs::Effect::switched))]
-pub fn switch(keys: Keys, subject: u64, table: usize, image: &Image) -> Effect
+pub fn switch(keys: Keys, subject: u64, table: usize, switches: &Tables) -> Effect
     ensures { result
-        ≡ within table (length image.now.switches.firsts) (switched (entries_of image.now.switches table)
-        (slot keys subject (slice_index image.now.switches.firsts table))) }
+        ≡ within table (length switches.now.firsts) (switched (entries_of switches.now table)
+        (slot keys subject (slice_index switches.now.firsts table))) }
 {
-    let Some((first, targets)) = image.switches().get(table) else {
+    let Some((first, targets)) = switches.get(table) else {
         return Effect::Stop(Stop::Unlisted);
     };
     match targets.get(slot(keys, subject, first) as usize) {
@@ -48,17 +48,25 @@ pub fn switch(keys: Keys, subject: u64, table: usize, image: &Image) -> Effect
 }
 
 #[tactic(auto, unfolding(crate::specs::Effect::within))]
-pub fn lookup(keys: Keys, dst: Reg, subject: u64, table: usize, image: &Image) -> Effect
+pub fn lookup(
+    keys: Keys,
+    dst: Reg,
+    subject: u64,
+    table: usize,
+    lookups: &Tables,
+    defaults: &[u64],
+) -> Effect
+    requires { length defaults.now ≡ length lookups.now.firsts }
     ensures { result
-        ≡ within table (length image.now.lookups.firsts) (Effect.Set dst (slice_index_or (entries_of image.now.lookups table)
-        (slot keys subject (slice_index image.now.lookups.firsts table)) (slice_index image.now.defaults table))) }
+        ≡ within table (length lookups.now.firsts) (Effect.Set dst (slice_index_or (entries_of lookups.now table)
+        (slot keys subject (slice_index lookups.now.firsts table)) (slice_index defaults.now table))) }
 {
-    let Some((first, values)) = image.lookups().get(table) else {
+    let Some((first, values)) = lookups.get(table) else {
         return Effect::Stop(Stop::Unlisted);
     };
     let value = match values.get(slot(keys, subject, first) as usize) {
         Some(&value) => value,
-        None => image.defaults()[table],
+        None => defaults[table],
     };
     Effect::Set { dst, value }
 }

@@ -4,12 +4,12 @@ use Rattle.string.specs.Payload.{reaches}
 use Rattle.gc.specs.declared.Gc.{Gc}
 use Rattle.gc.specs.Lent.{InHeap}
 use Rattle.effects.specs.declared.Effect.{Effect}
+use Rattle.effects.specs.Stops.{number_of_stop, IsAnomaly}
 use Rattle.vm.specs.declared.State.{State}
 use Rattle.instruction.specs.declared.Position.{Position}
 use Rattle.instruction.specs.declared.Turn.{Turn}
 use Rattle.instruction.specs.declared.Turn.TheVariants.{Next, Halt, Stop}
 use Rattle.std.specs.Prelude as std
-use Rattle.anomaly.specs.Table.{number_of_anomaly}
 use Rattle.vm.specs.Run.{Step, next, halted, stop, apply, limited}
 use Rattle.vm.specs.Machine.{Lent, Machine, sizes, keep_regs, keep_pc, keep_depth, keep_gc, view, laid}
 use Rattle.vm.specs.Told.{machine_of}
@@ -69,4 +69,10 @@ turn e m = turned m (limited (sizes m.lent) (view m) (apply e (view m)))
 abbrev pub turn_of : State → Position → List ℕ → Lent → Turn → Turned
 turn_of s at regs l (Next to) = record { how = goes; machine = machine_at s to regs l }
 turn_of s at regs l Halt = record { how = halts; machine = machine_at s at regs l }
-turn_of s at regs l (Stop why) = record { how = stops (number_of_anomaly why); machine = machine_at s at regs l }
+turn_of s at regs l (Stop why) = record { how = stops (number_of_stop why); machine = machine_at s at regs l }
+
+-- a turn that stops by an anomaly, if it stops
+abbrev pub IsListed : Turn → Type 0
+IsListed (Next to) = Unit {0}
+IsListed Halt = Unit {0}
+IsListed (Stop why) = IsAnomaly why

@@ -4,10 +4,11 @@
 ghost use Rattle.std.specs.Prelude.{◌≡◌, ℕ, ◌+◌, ◌^◌, ◌<◌, ◌≤◌, List, length};
 ghost use Rattle.gc.specs.Lent.{InHeap};
 ghost use Rattle.effects.specs.declared.Effect.{Effect};
-ghost use Rattle.effects.specs.Stops.{number_of_stop, IsAnomaly, EndsListed};
+ghost use Rattle.effects.specs.Stops.{EndsListed};
+ghost use Rattle.effects.specs.declared.Stop.TheVariants as stop;
 ghost use Rattle.vm.specs.declared.State.{State};
 ghost use Rattle.vm.specs.Machine.{Lent, lend_frames, lend_heap, lend_run};
-ghost use Rattle.instruction.specs.Turn.{at_pc, machine_at, Fitting, place_in, stops, turn, turn_of};
+ghost use Rattle.instruction.specs.Turn.{at_pc, machine_at, Fitting, place_in, turn, turn_of, IsListed};
 ghost use Rattle.instruction.specs.declared.Position.{Position};
 
 use anomaly::Anomaly;
@@ -28,7 +29,7 @@ pub struct Position {
 pub enum Turn {
     Next(Position),
     Halt,
-    Stop(Anomaly),
+    Stop(Stop),
 }
 
 // Where in the heap an address lies: 'an unwrapped sum that is a multiple of 8 and wholly in pushed pages'
@@ -63,9 +64,10 @@ impl Position {
 
 fn set(at: Position, dst: Reg, value: u64, regs: &mut [u64; 32]) -> Turn
     requires { at.pc + 1 < 2 ^ 64 }
-    ensures { (s : State) (l : Lent)
+    ensures turned { (s : State) (l : Lent)
         → Fitting at l
         → turn_of s at regs.new l result ≡ turn (Effect.Set dst value) (machine_at s at regs.old l) }
+    ensures listed { IsListed result }
 {
     dst.write(regs, value);
     at.to(at.pc + 1)
@@ -73,14 +75,15 @@ fn set(at: Position, dst: Reg, value: u64, regs: &mut [u64; 32]) -> Turn
 
 fn call(at: Position, func: usize, frames: &mut [u64]) -> Turn
     requires { at.depth ≤ length frames.old }
-    ensures { (s : State) (regs : List ℕ) (l : Lent)
+    ensures turned { (s : State) (regs : List ℕ) (l : Lent)
         → Fitting at (lend_frames frames.old l)
         → turn_of s at regs (lend_frames frames.new l) result
         ≡ turn (Effect.Call func) (machine_at s at regs (lend_frames frames.old l)) }
+    ensures listed { IsListed result }
 {
     let depth = at.depth;
     if frames.len() <= depth {
-        return Turn::Stop(Anomaly::StackOverflow);
+        return stopped(Anomaly::StackOverflow);
     }
     frames[depth] = at.pc as u64;
     Turn::Next(Position {
@@ -93,13 +96,14 @@ fn call(at: Position, func: usize, frames: &mut [u64]) -> Turn
 // Back behind the `Call` that a frame holds the place of.
 fn ret(at: Position, frames: &[u64]) -> Turn
     requires { at.depth ≤ length frames.now }
-    ensures { (s : State) (regs : List ℕ) (l : Lent)
+    ensures turned { (s : State) (regs : List ℕ) (l : Lent)
         → Fitting at (lend_frames frames.now l)
         → turn_of s at regs (lend_frames frames.now l) result
         ≡ turn Effect.Ret (machine_at s at regs (lend_frames frames.now l)) }
+    ensures listed { IsListed result }
 {
     if at.depth == 0 {
-        return Turn::Stop(Anomaly::FrameUnderflow);
+        return stopped(Anomaly::FrameUnderflow);
     }
     let depth = at.depth - 1;
     let pc = frames[depth].wrapping_add(1) as usize;
@@ -108,13 +112,14 @@ fn ret(at: Position, frames: &[u64]) -> Turn
 
 fn load(at: Position, dst: Reg, base: u64, offset: u64, regs: &mut [u64; 32], heap: &[u8]) -> Turn
     requires { (at.pc + 1 < 2 ^ 64) × InHeap at.gc heap.now }
-    ensures { (s : State) (l : Lent)
+    ensures turned { (s : State) (l : Lent)
         → Fitting at (lend_heap heap.now l)
         → turn_of s at regs.new (lend_heap heap.now l) result
         ≡ turn (Effect.Load dst base offset) (machine_at s at regs.old (lend_heap heap.now l)) }
+    ensures listed { IsListed result }
 {
     let Some(i) = reach(at.gc, base, offset) else {
-        return Turn::Stop(Anomaly::BadAddress);
+        return stopped(Anomaly::BadAddress);
     };
     dst.write(regs, memory::load::<8>(heap, i));
     at.to(at.pc + 1)
@@ -122,13 +127,14 @@ fn load(at: Position, dst: Reg, base: u64, offset: u64, regs: &mut [u64; 32], he
 
 fn store(at: Position, base: u64, offset: u64, value: u64, heap: &mut [u8]) -> Turn
     requires { (at.pc + 1 < 2 ^ 64) × InHeap at.gc heap.old }
-    ensures { (s : State) (regs : List ℕ) (l : Lent)
+    ensures turned { (s : State) (regs : List ℕ) (l : Lent)
         → Fitting at (lend_heap heap.old l)
         → turn_of s at regs (lend_heap heap.new l) result
         ≡ turn (Effect.Store base offset value) (machine_at s at regs (lend_heap heap.old l)) }
+    ensures listed { IsListed result }
 {
     let Some(i) = reach(at.gc, base, offset) else {
-        return Turn::Stop(Anomaly::BadAddress);
+        return stopped(Anomaly::BadAddress);
     };
     memory::store::<8>(heap, i, value);
     at.to(at.pc + 1)
@@ -143,14 +149,15 @@ fn alloc(
     heap: &mut [u8],
 ) -> Turn
     requires { (at.pc + 1 < 2 ^ 64) × InHeap at.gc heap.old }
-    ensures { (s : State) (l : Lent)
+    ensures turned { (s : State) (l : Lent)
         → Fitting at (lend_heap heap.old l)
         → turn_of s at regs.new (lend_heap heap.new l) result
         ≡ turn (Effect.Alloc dst kind size) (machine_at s at regs.old (lend_heap heap.old l)) }
+    ensures listed { IsListed result }
 {
     let mut gc = at.gc;
     let Some(address) = gc.alloc(Metadata::new(kind, false, size), heap) else {
-        return Turn::Stop(Anomaly::AllocationFailed);
+        return stopped(Anomaly::AllocationFailed);
     };
     dst.write(regs, address);
     Turn::Next(Position {
@@ -160,16 +167,10 @@ fn alloc(
     })
 }
 
-// A word that the loader has passed stops a run by nothing but an anomaly.
-fn stop(why: Stop) -> Turn
-    requires { IsAnomaly why }
-    ensures { (s : State) (at : Position) (regs : List ℕ) (l : Lent)
-        → turn_of s at regs l result ≡ record { how = stops (number_of_stop why); machine = machine_at s at regs l } }
+fn stopped(why: Anomaly) -> Turn
+    ensures { result ≡ Turn.Stop (stop.Anomaly why) }
 {
-    match why {
-        Stop::Anomaly(why) => Turn::Stop(why),
-        Stop::Refused(_) | Stop::Unlisted => unreachable!(),
-    }
+    Turn::Stop(Stop::Anomaly(why))
 }
 
 pub fn apply(
@@ -179,10 +180,11 @@ pub fn apply(
     frames: &mut [u64],
     heap: &mut [u8],
 ) -> Turn
-    requires { EndsListed effect × (at.pc + 1 < 2 ^ 64) × ((l : Lent) → Fitting at (lend_run frames.old heap.old l)) }
-    ensures { (s : State) (l : Lent)
+    requires { (at.pc + 1 < 2 ^ 64) × ((l : Lent) → Fitting at (lend_run frames.old heap.old l)) }
+    ensures turned { (s : State) (l : Lent)
         → turn_of s at regs.new (lend_run frames.new heap.new l) result
         ≡ turn effect (machine_at s at regs.old (lend_run frames.old heap.old l)) }
+    ensures listed { EndsListed effect → IsListed result }
 {
     // lent: a match that moves a register out of an effect gets no proof
     match &effect {
@@ -198,7 +200,7 @@ pub fn apply(
             value,
         } => store(at, *base, *offset, *value, heap),
         Effect::Alloc { dst, kind, size } => alloc(at, *dst, *kind, *size, regs, heap),
-        Effect::Stop(why) => stop(*why),
+        Effect::Stop(why) => Turn::Stop(*why),
         Effect::Halt => Turn::Halt,
     }
 }

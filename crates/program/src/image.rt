@@ -1,6 +1,5 @@
-// An image, cut into its sections, once the loader has passed it.
+// An image, cut into its sections, whose tables can be read.
 ghost use Rattle.std.specs.Prelude.{◌≡◌, ◌<◌, true, length, IfOk};
-ghost use Rattle.std.proofs.Math.Option.{none};
 ghost use Rattle.program.specs.Image.{image_ok, image_tests, failing, refused_with, IsTable, start_of, counts};
 ghost use Rattle.program.specs.Words.{cut, image_in, Cuts, Ordered};
 
@@ -152,22 +151,20 @@ impl<'a> Sections<'a> {
     }
 }
 
-// An image that the loader has passed.
+// An image whose tables are in order, as 10 asks. `load` makes it of words that pass every test.
 #[derive(Drop)]
 pub struct Image<'a> {
     sections: Sections<'a>,
 }
 
 impl<'a> Model for Image<'a> {
-    ghost use Rattle.std.specs.Prelude.{◌≡◌, true};
-    ghost use Rattle.std.proofs.Math.Option.{none};
-    ghost use Rattle.program.specs.Image.{Image, image_tests, failing};
+    ghost use Rattle.program.specs.Image.{Image, Readable};
 
     ghost Value = { Image };
 
     ghost view = { λ i. i.sections };
 
-    ghost invariant = { λ i. failing (image_tests true i.sections) ≡ none };
+    ghost invariant = { λ i. Readable i.sections };
 }
 
 impl<'a> Image<'a> {
@@ -194,8 +191,7 @@ impl<'a> Image<'a> {
     }
 
     pub fn code(&self) -> &'a [u64]
-        ensures code { result.now ≡ self.now.code }
-        ensures passed { failing (image_tests true self.now) ≡ none }
+        ensures { result.now ≡ self.now.code }
     {
         let sections = &self.sections;
         sections.code

@@ -3,7 +3,7 @@ use Rattle.std.proofs.Common.{◌≡◌, ℕ, List, true, sym, ◌∙◌}
 use Rattle.std.proofs.lemmas.Result.{err_from_is_err_and}
 use Rattle.program.specs.Image.{Image}
 use Rattle.program.specs.Words.{fits, cut, image_in}
-use Rattle.program.proofs.Images.{refused_10, refused_11, refused_16, word_by_word}
+use Rattle.program.proofs.Images.{refused_10, refused_11, refused_16, word_by_word, passed_tables}
 use Rattle.program.proofs.Layouts.{image-is}
 use Rattle.program.proofs.image.Image.load.Goals as goal
 
@@ -38,8 +38,8 @@ pub invariant_of-result : goal.invariant_of-result
 invariant_of-result c =
     let size = rw (← c.sections.view_is) at (sym c.sizes_ok.ensures ∙ c.if-not-sizes_ok.false) in
     rw (← c.sections.view_is)
-    (sym ((rw (c.in_ok-words_ok.was, c.counts.ensures, ← c.sections.view_is) at c.words_ok.ensures)
-    ∙ word_by_word true _ size (sym c.ends_in_halt.ensures ∙ c.if-not-ends_in_halt.false) (sym c.below.ensures ∙ c.if-not-below.false)))
+    (passed_tables _ (sym ((rw (c.in_ok-words_ok.was, c.counts.ensures, ← c.sections.view_is) at c.words_ok.ensures)
+    ∙ word_by_word true _ size (sym c.ends_in_halt.ensures ∙ c.if-not-ends_in_halt.false) (sym c.below.ensures ∙ c.if-not-below.false))))
 
 pub returns-clause-image : goal.returns-clause-image
 returns-clause-image c = whole _ _ c.in-Some.ensures
