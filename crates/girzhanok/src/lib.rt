@@ -58,8 +58,9 @@ pub extern "C" fn girzhanok_run(
     let Some(words) = state.first_chunk_mut::<STATE_WORDS>() else {
         return Refusal::SIZE;
     };
-    let ran = run::run(unpack(words), budget, image, frames, heap);
-    answer_run(ran.end, ran.state, words, pc, steps)
+    let mut machine = unpack(words);
+    let end = run::run(&mut machine, budget, image, frames, heap);
+    answer_run(end, machine, words, pc, steps)
 }
 
 #[unsafe(no_mangle)]

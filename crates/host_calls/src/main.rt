@@ -88,15 +88,14 @@ impl Machine {
         budget: Steps,
         image: &[u64],
     ) -> io::Result<()> {
-        let ran = run::run(
-            self.state,
+        let end = run::run(
+            &mut self.state,
             budget,
             image,
             &mut self.lent.frames,
             &mut self.lent.heap,
         );
-        self.state = ran.state;
-        print_end(rt, label, ran.end)
+        print_end(rt, label, end)
     }
 
     // A run of one word and a Halt.
@@ -218,8 +217,14 @@ fn refused_runs(rt: &impl Print, machine: &mut Machine) -> io::Result<()> {
     machine.state.depth = machine.lent.frames.len() + 1;
     machine.run(rt, "run at a depth above the frames", 1, &halt)?;
     machine.state.depth = depth;
-    let ran = run::run(machine.state, 1, &halt, &mut machine.lent.frames, &mut []);
-    print_end(rt, "run with no heap", ran.end)?;
+    let end = run::run(
+        &mut machine.state,
+        1,
+        &halt,
+        &mut machine.lent.frames,
+        &mut [],
+    );
+    print_end(rt, "run with no heap", end)?;
     machine.run(rt, "run of code without a Halt", 1, &nop)?;
     machine.run_word(rt, "run of an opcode that is not carried", 42)?;
     machine.run_word(rt, "run of a word with register 32", 0x201a)?;

@@ -30,3 +30,8 @@ pub failing_later : (ts us : List Test) → failing ts ≡ none → failing (ts 
 unfolding failing
 failing_later [] us e = refl
 failing_later (t ∷ ts) us e = let k = failing-cons t ts e in rw k.0 (failing_later ts us k.1)
+
+pub failing-first : (ts us : List Test) → failing (ts ++ us) ≡ none → failing ts ≡ none
+unfolding failing
+failing-first [] us e = refl
+failing-first (t ∷ ts) us e = let k = failing-cons t (ts ++ us) e in rw k.0 (failing-first ts us k.1)

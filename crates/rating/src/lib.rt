@@ -44,6 +44,6 @@ pub fn rate(
     if let Err(why) = named {
         return refusal_text(why);
     }
-    let ran = run::run(state, head.budget as Steps, words, frames, heap);
-    run_text(ran.end, &ran.state)
+    let end = run::run(&mut state, head.budget as Steps, words, frames, heap);
+    run_text(end, &state)
 }

@@ -6,17 +6,17 @@ use Rattle.memory.proofs.Tests.{both}
 use Rattle.gc.specs.Lent.{InHeap}
 use Rattle.gc.specs.Lent as Heap
 use Rattle.gc.proofs.Soundness as Soundness
-use Rattle.program.specs.Image.{Image, image_tests, failing}
+use Rattle.program.specs.Image.{Image, test, image_tests, failing}
 use Rattle.vm.specs.declared.State.{State}
 use Rattle.instruction.specs.declared.Position.{Position}
 use Rattle.vm.specs.Core.{Core, set_regs, set_pc, set_frames}
 use Rattle.vm.specs.Run.{Ran, go, root, entered, stored}
-use Rattle.vm.specs.Machine.{Lent, Machine, lend_frames, sizes, memory_of, view, with_pages, traced, with_frames, with_regs, laid, run, Called, ended, refused}
-use Rattle.vm.specs.Machine.{ran, idle, runs, run_leaves, run_call, act, frames_ok, heap_ok, frames_belong, pages_belong, tests_by, tests, tried, perform}
+use Rattle.vm.specs.Machine.{Lent, Machine, lend_frames, sizes, memory_of, view, with_pages, traced, with_frames, with_regs, laid, run, Called, ended}
+use Rattle.vm.specs.Machine.{ran, idle, runs, run_leaves, run_call, frames_ok, heap_ok, frames_belong, pages_belong, tests_by, tests}
 use Rattle.vm.specs.Told.{machine_of}
 use Rattle.instruction.specs.Turn.{position_of, Fitting}
 use Rattle.run.specs.Loop.{Going, Finished, finishes, finished, stored_pc}
-use Rattle.program.proofs.Tests.{failing-here, failing_later}
+use Rattle.program.proofs.Tests.{failing-here, failing_later, failing-first}
 use Rattle.vm.proofs.Buffers.{frames_room, heap-low}
 use Rattle.vm.proofs.Replies.{over_first}
 use Rattle.vm.proofs.Runs.{runs-go, runs_past}
@@ -39,33 +39,24 @@ module _ (im : Image) (b : ℕ) (s : State) (l : Lent) where
   abbrev pub sizes_fine : Bool
   sizes_fine = frames_ok (length l.frames) && heap_ok s.gc.base (length l.heap)
 
-  abbrev machine : Machine
-  machine = machine_of s l
-
-  pub run-refused : (k r : ℕ) → failing (image_tests sizes_fine im) ≡ some k → r ≡ k
-      → record { answer = refused r; machine = machine } ≡ perform (run im b) machine
-  unfolding perform tests tests_by tried
-  run-refused k r f e = rw (failing-here (image_tests sizes_fine im) _ k f, tried, e) refl
-
-  run_9 : failing (image_tests sizes_fine im) ≡ none → (frames_belong (length im.code) s l && pages_belong s l) ≡ false
-      → record { answer = refused 9; machine = machine } ≡ perform (run im b) machine
-  unfolding perform tests tests_by tried failing
-  run_9 f e = rw (failing_later (image_tests sizes_fine im) _ f, e, failing, tried) refl
-
-  pub run_passed : failing (tests (run im b) s l) ≡ none → run_call im b machine ≡ perform (run im b) machine
-  unfolding perform tried act
-  run_passed f = rw (f, tried) refl
+  pub image-refused : (k : ℕ) → failing (image_tests sizes_fine im) ≡ some k → some k ≡ failing (tests (run im b) s l)
+  unfolding tests tests_by
+  image-refused k f = sym (failing-here (image_tests sizes_fine im) _ k f)
 
   module _ (f : failing (image_tests sizes_fine im) ≡ none) {p q : Bool}
       (frames-say : (u : State) (k : Lent) → u.depth ≡ s.depth → k.frames ≡ l.frames → p ≡ frames_belong (length im.code) u k)
       (pages-say : q ≡ Heap.sound_of s.gc (length l.heap)) where
-    pub run_foreign : (p && q) ≡ false → record { answer = refused 9; machine = machine } ≡ perform (run im b) machine
-    unfolding pages_belong
-    run_foreign e = run_9 f (rw (← (frames-say s l refl refl), ← pages-say) e)
+    belongs : {t : Bool} → (p && q) ≡ t → failing (test t 9 ∷ []) ≡ failing (tests (run im b) s l)
+    unfolding tests tests_by pages_belong
+    belongs e = sym (failing_later (image_tests sizes_fine im) _ f ∙ rw (← (frames-say s l refl refl), ← pages-say, e) refl)
 
-    pub run_fine : (p && q) ≡ true → failing (tests (run im b) s l) ≡ none
-    unfolding tests tests_by pages_belong failing
-    run_fine e = failing_later (image_tests sizes_fine im) _ f ∙ rw (← (frames-say s l refl refl), ← pages-say, e, failing) refl
+    pub state-refused : (p && q) ≡ false → some 9 ≡ failing (tests (run im b) s l)
+    unfolding failing
+    state-refused e = belongs e
+
+    pub all-pass : (p && q) ≡ true → none ≡ failing (tests (run im b) s l)
+    unfolding failing
+    all-pass e = belongs e
 
 -- ---- after the tests
 
@@ -91,6 +82,11 @@ module _ (im : Image) (b : ℕ) (s : State) (l : Lent) (passed : failing (tests 
 
   abbrev m₁ : Machine
   m₁ = machine_of s (lend_frames opened l)
+
+  -- its image passes alone, too
+  pub image-passed : failing (image_tests true im) ≡ none
+  unfolding tests tests_by
+  image-passed = rw (all_passed im b m passed).lent at (failing-first (image_tests _ im) _ passed)
 
   lent_fine : (frames_ok (length frames) ≡ true) × (heap_ok s.gc.base (length heap) ≡ true)
   lent_fine = both (frames_ok (length frames)) _ (all_passed im b m passed).lent

@@ -7,11 +7,9 @@ use Rattle.instruction.specs.Turn.{state_at, machine_at, Fitting}
 use Rattle.anomaly.specs.Table.{number_of_anomaly}
 use Rattle.run.specs.declared.Ending.{Ending}
 use Rattle.run.specs.declared.Ended.{Ended}
-use Rattle.run.specs.declared.Ran as Code
 use Rattle.vm.specs.Run.{Ran, go}
-use Rattle.vm.specs.Machine.{Lent, Machine, sizes, keep_pc, view, laid, Called}
+use Rattle.vm.specs.Machine.{Lent, Machine, sizes, keep_pc, view, laid}
 use Rattle.vm.specs.Loaded.{Returns}
-use Rattle.vm.specs.Told.{machine_of, answer_of}
 
 -- ---- what the loop keeps
 
@@ -51,6 +49,3 @@ stored_pc e first pc = cond (e == 0 || e == 5) pc first
 
 abbrev pub stored_in : State → List ℕ → Ended → State
 stored_in s regs e = keep_pc (stored_pc (number_of_ending e.ending) s.pc e.at.pc) (state_at s e.at regs)
-
-abbrev pub ran_told : Code.Ran → Lent → Called
-ran_told r l = record { answer = answer_of r.end; machine = machine_of r.state l }

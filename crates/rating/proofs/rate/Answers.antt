@@ -46,4 +46,4 @@ returns c =
     c.run_text.ensures
     ∙ names-ran _ _ _ _ _ _ (begun_as _ _ _ _ _ _ c.requires.words c.requires.lent c.in-Ok.ensures) _ (globals_of _ c.requires.words) _ _ _
     (c.in_default.ensures (lend_frames _ unlent)) refl
-    _ (image_with_lem _ c.requires.words _ c.intern_names-named.auto.globals) _ refl _ (c.run-ran.ensures (lend_slots _ (lend_spare _ unlent)))
+    _ (image_with_lem _ c.requires.words _ c.intern_names-named.auto.globals) _ refl _ (c.run-end.ensures (lend_slots _ (lend_spare _ unlent)))

@@ -25,5 +25,5 @@ returns c =
     elim c.match-e.branch [
       | in-Halt w ↦ rw (w.end-is, w.in-Halt.is) (refl, refl)
       | in-Budget w ↦ rw (w.end-is, w.in-Budget.is) (refl, refl)
-      | in-Stopped w ↦ rw (w.end-is, w.in-Stopped.is) (refl, rw (← first_pc w.in-Stopped.why c.args.state.pc c.args.e.at.pc) refl)
+      | in-Stopped w ↦ rw (w.end-is, w.in-Stopped.is) (refl, rw (← first_pc w.in-Stopped.why c.args.state.now.pc c.args.e.at.pc) refl)
     ]

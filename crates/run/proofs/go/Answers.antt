@@ -6,37 +6,42 @@ use Rattle.run.proofs.Loops.{running_first, running_next, halted-here, stopped_h
 use Rattle.run.proofs.go.Goals as goal
 
 pub loop-steps-init : goal.loop-steps-init
-loop-steps-init c = (running_first _ _ _ _ _ c.requires, refl, refl)
+loop-steps-init c = (running_first _ _ _ _ _ c.requires.going, refl, refl)
 
 pub bounds-code-at : goal.bounds-code-at
-bounds-code-at c = rw c.code-code.ensures.code c.loop-steps.invariant.0.here
+bounds-code-at c = rw c.code-code.ensures c.loop-steps.invariant.0.here
 
 pub apply-requires : goal.apply-requires
 apply-requires c =
-    let ok = loaded_by _ c.code-code.ensures.passed (let h = c.loop-steps.invariant.0.here in omega arith) in (
-      rw (c.word_effect-effect.ensures, c.code-code.ensures.code) (asks_listed _ ok _ _ _ _ _ _ _ _ c.loop-steps.invariant.0),
+    let ok = loaded_by _ c.requires.passed (let h = c.loop-steps.invariant.0.here in omega arith) in (
       next_fits _ ok _ _ _ _ _ _ _ _ c.loop-steps.invariant.0,
       λ l. (c.loop-steps.invariant.0.going l).fitting,
     )
 
 pub returns-in-Halt : goal.returns-in-Halt
 returns-in-Halt c =
-    let ok = loaded_by _ c.code-code.ensures.passed (let h = c.loop-steps.invariant.0.here in omega arith) in
+    let ok = loaded_by _ c.requires.passed (let h = c.loop-steps.invariant.0.here in omega arith) in
     λ s l. halted-here _ ok _ _ _ _ _ _ _ _ c.loop-steps.invariant.0 c.loop-steps-test.true s l _
-    (rw (c.word_effect-effect.ensures, c.code-code.ensures.code, c.in-Halt.is) at (c.apply.ensures s l))
+    (rw (c.word_effect-effect.ensures, c.code-code.ensures, c.in-Halt.is) at (c.apply.ensures.turned s l))
+
+pub anomaly-requires : goal.anomaly-requires
+anomaly-requires c =
+    let ok = loaded_by _ c.requires.passed (let h = c.loop-steps.invariant.0.here in omega arith) in
+    rw c.in-Stop.is at (c.apply.ensures.listed
+    (rw (c.word_effect-effect.ensures, c.code-code.ensures) (asks_listed _ ok _ _ _ _ _ _ _ _ c.loop-steps.invariant.0)))
 
 pub returns-in-Stop : goal.returns-in-Stop
 returns-in-Stop c =
-    let ok = loaded_by _ c.code-code.ensures.passed (let h = c.loop-steps.invariant.0.here in omega arith) in
-    λ s l. stopped_here _ ok _ _ _ _ _ _ _ _ c.loop-steps.invariant.0 c.loop-steps-test.true s l _ _
-    (rw (c.word_effect-effect.ensures, c.code-code.ensures.code, c.in-Stop.is) at (c.apply.ensures s l))
+    let ok = loaded_by _ c.requires.passed (let h = c.loop-steps.invariant.0.here in omega arith) in
+    λ s l. rw c.anomaly.ensures (stopped_here _ ok _ _ _ _ _ _ _ _ c.loop-steps.invariant.0 c.loop-steps-test.true s l _ _
+    (rw (c.word_effect-effect.ensures, c.code-code.ensures, c.in-Stop.is) at (c.apply.ensures.turned s l)))
 
 pub loop-steps-preserved : goal.loop-steps-preserved
 loop-steps-preserved c =
-    let ok = loaded_by _ c.code-code.ensures.passed (let h = c.loop-steps.invariant.0.here in omega arith) in (
+    let ok = loaded_by _ c.requires.passed (let h = c.loop-steps.invariant.0.here in omega arith) in (
       running_next _ ok _ _ _ _ _ _ _ _ c.loop-steps.invariant.0 c.loop-steps-test.true _ _
           (λ (l : Lent). lend_run _ _ l)
-          (λ s l. rw (c.word_effect-effect.ensures, c.code-code.ensures.code, c.in-Next.is) at (c.apply.ensures s l)),
+          (λ s l. rw (c.word_effect-effect.ensures, c.code-code.ensures, c.in-Next.is) at (c.apply.ensures.turned s l)),
       c.apply.auto.frames ∙ c.loop-steps.invariant.1,
       c.apply.auto.heap ∙ c.loop-steps.invariant.2,
     )
@@ -49,5 +54,5 @@ shape_of-heap c = c.loop-steps.invariant.2
 
 pub returns : goal.returns
 returns c =
-    let ok = loaded_by _ c.code-code.ensures.passed (let h = c.loop-steps.invariant.0.here in omega arith) in
+    let ok = loaded_by _ c.requires.passed (let h = c.loop-steps.invariant.0.here in omega arith) in
     λ s l. spent-here _ ok _ _ _ _ _ _ _ _ c.loop-steps.invariant.0 c.loop-steps-test.false (omega arith) s l
