@@ -4,25 +4,23 @@
 ghost use Rattle.std.specs.Prelude.{◌≡◌, [], ◌∷◌};
 ghost use Rattle.vm.specs.Machine.{value, done};
 ghost use Rattle.vm.specs.Told.{answer_by, answer_of};
-ghost use Rattle.names.specs.Interned.{in_state};
 ghost use Rattle.answers.specs.Words.{unpacked};
 ghost use Rattle.answers.specs.Answered.{number_of, answered, kept};
 
 pub mod words;
 
 use anomaly::{End, Refusal, Steps};
-use names::interner::Names;
 use vm::State;
-use words::{Words, pack, pack_names};
+use words::{Pack, Words};
 
-// The number of what a call answers. The words of the state are written unless it was refused.
-pub fn answer(called: Result<(), Refusal>, state: State, words: &mut Words) -> u64
+// The number of what a call answers. What it left is written into the words of the state unless it was refused.
+pub fn answer<P: Pack>(called: Result<(), Refusal>, left: P, words: &mut Words) -> u64
     ensures number { result ≡ number_of (answer_by (λ _. done) called) }
-    ensures kept { words.new ≡ kept (answer_by (λ _. done) called) state words.old }
+    ensures kept { words.new ≡ kept (answer_by (λ _. done) called) (P.leaves left (unpacked words.old)) words.old }
 {
     match called {
         Ok(()) => {
-            pack(state, words);
+            left.pack(words);
             End::HALT
         }
         Err(why) => why.number(),
@@ -30,48 +28,23 @@ pub fn answer(called: Result<(), Refusal>, state: State, words: &mut Words) -> u
 }
 
 // `answer`, and the value where there is one.
-pub fn answer_value(
+pub fn answer_value<P: Pack>(
     called: Result<u64, Refusal>,
-    state: State,
+    left: P,
     words: &mut Words,
     to: &mut u64,
 ) -> u64
     ensures number { result ≡ number_of (answer_by value called) }
-    ensures kept { words.new ≡ kept (answer_by value called) state words.old }
+    ensures kept { words.new ≡ kept (answer_by value called) (P.leaves left (unpacked words.old)) words.old }
     ensures answered { to.new ∷ [] ≡ answered (answer_by value called) (to.old ∷ []) }
 {
-    match called {
-        Ok(v) => {
-            pack(state, words);
-            *to = v;
-            End::HALT
-        }
-        Err(why) => why.number(),
+    if let Ok(v) = called {
+        *to = v;
     }
+    answer(called.map(|_| ()), left, words)
 }
 
-// The same of an interning.
-pub fn answer_name(
-    called: Result<u64, Refusal>,
-    names: Names,
-    words: &mut Words,
-    to: &mut u64,
-) -> u64
-    ensures number { result ≡ number_of (answer_by value called) }
-    ensures kept { words.new ≡ kept (answer_by value called) (in_state (unpacked words.old) names) words.old }
-    ensures answered { to.new ∷ [] ≡ answered (answer_by value called) (to.old ∷ []) }
-{
-    match called {
-        Ok(v) => {
-            pack_names(names, words);
-            *to = v;
-            End::HALT
-        }
-        Err(why) => why.number(),
-    }
-}
-
-// The same of a run: pc and steps, unless it was refused.
+// The same of a run: its pc and steps, and the number of its end.
 pub fn answer_run(
     end: End,
     state: State,
@@ -84,10 +57,10 @@ pub fn answer_run(
     ensures answered { pc.new ∷ steps.new ∷ [] ≡ answered (answer_of end) (pc.old ∷ steps.old ∷ []) }
 {
     if let End::Refused(why) = end {
-        return why.number();
+        return answer(Err(why), state, words);
     }
-    pack(state, words);
     *pc = end.pc();
     *steps = end.steps();
+    answer(Ok(()), state, words);
     end.number()
 }

@@ -1,6 +1,7 @@
 // A state in 64-bit words: registers 0 to 31, pc, depth; the heap's base, pushed bytes, last page and its length; active slots, names.
 ghost use Rattle.std.specs.Prelude.{◌≡◌};
 ghost use Rattle.memory.specs.Lists.{over};
+ghost use Rattle.vm.specs.declared.State.{State};
 ghost use Rattle.names.specs.Interned.{names_of, in_state};
 ghost use Rattle.answers.specs.Words.{packed, unpacked};
 
@@ -45,32 +46,42 @@ pub fn unpack(words: &Words) -> State
     }
 }
 
-pub fn pack(state: State, words: &mut Words)
-    ensures { words.new ≡ over (packed state) words.old }
-{
-    words[..32].copy_from_slice(&state.regs);
-    words[32] = state.pc as u64;
-    words[33] = state.depth as u64;
-    pack_names(
-        Names {
-            gc: state.gc,
-            strings: state.strings,
-        },
-        words,
-    );
+// What a call leaves of a state: all of it, or the numbers of heap and table, which are what an interning changes.
+pub trait Pack: Copy {
+    // the state that this leaves, of the one from before
+    ghost leaves: { Self → State → State };
+
+    fn pack(self, words: &mut Words)
+        ensures { words.new ≡ over (packed (leaves self (unpacked words.old))) words.old };
 }
 
-// After an interning: of a state's words only these have changed.
-pub fn pack_names(names: Names, words: &mut Words)
-    ensures { words.new ≡ over (packed (in_state (unpacked words.old) names)) words.old }
-{
-    let Names { gc, strings } = names;
-    words[34..].copy_from_slice(&[
-        gc.base,
-        gc.pushed as u64,
-        gc.page as u64,
-        gc.len as u64,
-        strings.active as u64,
-        strings.len as u64,
-    ]);
+impl Pack for State {
+    ghost leaves = { λ state before. state };
+
+    fn pack(self, words: &mut Words) {
+        words[..32].copy_from_slice(&self.regs);
+        words[32] = self.pc as u64;
+        words[33] = self.depth as u64;
+        let names = Names {
+            gc: self.gc,
+            strings: self.strings,
+        };
+        names.pack(words);
+    }
+}
+
+impl Pack for Names {
+    ghost leaves = { λ names before. in_state before names };
+
+    fn pack(self, words: &mut Words) {
+        let Names { gc, strings } = self;
+        words[34..].copy_from_slice(&[
+            gc.base,
+            gc.pushed as u64,
+            gc.page as u64,
+            gc.len as u64,
+            strings.active as u64,
+            strings.len as u64,
+        ]);
+    }
 }

@@ -10,7 +10,8 @@ ghost use Rattle.girzhanok.specs.Served.{served_of, serve, serve_start};
 
 use anomaly::{Refusal, Steps};
 use answers::words::{unpack, unpack_names};
-use answers::{answer, answer_name, answer_run, answer_value};
+use answers::{answer, answer_run, answer_value};
+use names::to_name::Small;
 use vm::start;
 
 // The words of a state.
@@ -165,7 +166,7 @@ pub extern "C" fn girzhanok_intern(
     };
     let mut names = unpack_names(words);
     let called = names.intern(name, heap, slots, spare);
-    answer_name(called, names, words, value)
+    answer_value(called, names, words, value)
 }
 
 #[unsafe(no_mangle)]
@@ -188,6 +189,6 @@ pub extern "C" fn girzhanok_intern_small(
         return Refusal::SIZE;
     };
     let mut names = unpack_names(words);
-    let called = names.intern_small(len, word, heap, slots, spare);
-    answer_name(called, names, words, value)
+    let called = names.intern(Small { len, word }, heap, slots, spare);
+    answer_value(called, names, words, value)
 }

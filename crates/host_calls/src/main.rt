@@ -4,6 +4,7 @@
 ghost use Rattle.std.specs.Prelude.{◌≡◌, ◌+◌, length};
 
 use anomaly::{End, Refusal, Steps};
+use names::to_name::{Small, ToName};
 use program::HEADER;
 use std::io;
 use vm::{State, start};
@@ -117,28 +118,10 @@ impl Machine {
         )
     }
 
-    fn intern(&mut self, rt: &impl Print, label: &str, name: &[u8]) -> io::Result<()> {
+    fn intern<G: ToName>(&mut self, rt: &impl Print, label: &str, given: G) -> io::Result<()> {
         let called = names::intern(
             &mut self.state,
-            name,
-            &mut self.lent.heap,
-            &mut self.lent.slots,
-            &mut self.lent.spare,
-        );
-        print_value(rt, label, called)
-    }
-
-    fn intern_small(
-        &mut self,
-        rt: &impl Print,
-        label: &str,
-        len: usize,
-        word: u64,
-    ) -> io::Result<()> {
-        let called = names::intern_small(
-            &mut self.state,
-            len,
-            word,
+            given,
             &mut self.lent.heap,
             &mut self.lent.slots,
             &mut self.lent.spare,
@@ -242,27 +225,33 @@ fn blocks(rt: &impl Print, machine: &mut Machine) -> io::Result<()> {
 }
 
 fn names(rt: &impl Print, machine: &mut Machine) -> io::Result<()> {
-    machine.intern(rt, "intern nothing", b"")?;
-    machine.intern(rt, "intern gold", b"gold")?;
-    machine.intern(rt, "intern gold again", b"gold")?;
-    machine.intern_small(rt, "intern gold as a word", 4, 0x646c_6f67)?;
-    machine.intern_small(rt, "intern 9 bytes as a word", 9, 0)
+    machine.intern(rt, "intern nothing", b"".as_slice())?;
+    machine.intern(rt, "intern gold", b"gold".as_slice())?;
+    machine.intern(rt, "intern gold again", b"gold".as_slice())?;
+    machine.intern(
+        rt,
+        "intern gold as a word",
+        Small {
+            len: 4,
+            word: 0x646c_6f67,
+        },
+    )?;
+    machine.intern(rt, "intern 9 bytes as a word", Small { len: 9, word: 0 })
 }
 
 // 30 names more, and one that 64 slots have no room for.
 fn many_names(rt: &impl Print, machine: &mut Machine) -> io::Result<()> {
     for word in 1..31 {
-        let _ = names::intern_small(
+        let _ = names::intern(
             &mut machine.state,
-            1,
-            word,
+            Small { len: 1, word },
             &mut machine.lent.heap,
             &mut machine.lent.slots,
             &mut machine.lent.spare,
         );
     }
-    machine.intern_small(rt, "intern the 32nd name", 1, 30)?;
-    machine.intern_small(rt, "intern the 33rd name", 1, 31)
+    machine.intern(rt, "intern the 32nd name", Small { len: 1, word: 30 })?;
+    machine.intern(rt, "intern the 33rd name", Small { len: 1, word: 31 })
 }
 
 fn main(rt: HostRuntime) -> io::Result<()> {

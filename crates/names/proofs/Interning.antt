@@ -1,9 +1,8 @@
--- Interning: a new name and its slot, a name that is there, and what the two calls come to. Assumes nothing.
+-- Interning: a new name and its slot, a name that is there, and what a call that interns comes to. Assumes nothing.
 use mathlib.Core.Path.{◌≡◌, refl, sym, ap, ◌∙◌}
 use Prim.Native.Nat.{ℕ, ◌+◌, ◌≤◌, ◌<◌}
-use mathlib.Core.Bool.{true, false}
-use mathlib.Core.Option.{Option, none, some}
-use mathlib.Core.List.{List, [], ◌∷◌}
+use mathlib.Core.Option.{none, some}
+use mathlib.Core.List.{List, [], ◌∷◌, ◌++◌}
 use native.Mathlib.Omega.{arith}
 use lib.ListN.{length, take}
 use lib.Seq.{length-take-le}
@@ -12,7 +11,7 @@ use borrow.Author.Tests.{leb-true, le-leb, lt-leb, le-ltb}
 use Rattle.memory.proofs.Over.{over-take, take-over, length_over}
 use Rattle.str_table.specs.declared.StrTable.{StrTable}
 use Rattle.string.specs.Hash.{hash_of}
-use Rattle.string.specs.Payload.{holds, small_name}
+use Rattle.string.specs.Payload.{holds}
 use Rattle.str_table.specs.Table.{lookup, found_value, placed}
 use Rattle.str_table.specs.Grow.{room_of, with_room, spare_after, Inserted, inserted, insert_of}
 use Rattle.str_table.proofs.Probes.{length-placed}
@@ -23,15 +22,15 @@ use Rattle.gc.proofs.Blocks.{GivenAt, some_said, none_said}
 use Rattle.gc.specs.Pages.{Block}
 use Rattle.gc.specs.Lent.{pages_of, numbers_of, fits, outcome, granted_in}
 use Rattle.vm.specs.declared.State.{State}
-use Rattle.program.specs.Image.{test, failing}
+use Rattle.program.specs.Image.{Test, test, failing}
 use Rattle.program.proofs.Tests.{failing-here, failing_later}
 use Rattle.vm.specs.Core.{Memory, used, short, set_memory, set_pages, set_bytes}
-use Rattle.vm.specs.Names.{Given, filled, tabled, fresh, known, interned}
-use Rattle.vm.specs.Machine.{Lent, Machine, sizes, lend_heap, lend_names, memory_of, view, Called, value, host, intern, intern_small, with_pages, with_names, hosted}
-use Rattle.vm.specs.Machine.{host_leaves, granted, host_call, act, small_ok, name_tests, found, tests_by, tests}
+use Rattle.vm.specs.Names.{filled, tabled, fresh, known, interned}
+use Rattle.vm.specs.Machine.{Lent, Machine, sizes, lend_heap, lend_names, memory_of, view, Called, value, host, intern, with_pages, with_names, hosted}
+use Rattle.vm.specs.Machine.{Host, Found, host_leaves, granted, host_call, act, name_tests, found, tests_by, tests}
 use Rattle.vm.specs.Machine.{perform}
 use Rattle.vm.specs.Told.{machine_of, holding}
-use Rattle.names.specs.Interned.{written, name_block, Belong, names_of}
+use Rattle.names.specs.Interned.{written, name_block, Belong, Interns, names_of}
 use Rattle.vm.proofs.Performed.{refuses, refused-is, acted_is}
 use Rattle.vm.proofs.Fits.{short-names, view-within, view-fits}
 
@@ -184,46 +183,27 @@ module _ (s : State) (l : Lent) (name : List ℕ) where
       unfolding known
       told_fresh e x f = f ∙ ap (host_call (intern name) machine) (ap (known name (memory_of machine)) (sym e) ∙ known_is)
 
-  -- ---- the tests in turn
+-- ---- the tests in turn: 10 and 9, then what the given name is refused for
 
-  pub intern-refused : (e : ℕ) → some e ≡ failing (name_tests (found s machine.lent)) → refuses e machine ≡ perform (host (intern name)) machine
-  unfolding tests tests_by
-  intern-refused e f = refused-is (host (intern name)) machine _ (sym f)
+module _ (k : Host) (own : List Test) (after : (f : Found) → tests_by (host k) f ≡ name_tests f ++ own) (s : State) (l : Lent) where
+  abbrev called : Machine
+  called = machine_of s l
 
-  pub intern-told : none ≡ failing (name_tests (found s machine.lent)) → (x : Called)
-      → x ≡ host_call (intern name) machine (interned name (memory_of machine)) → x ≡ perform (host (intern name)) machine
-  unfolding tests tests_by act hosted
-  intern-told f x e = e ∙ acted_is (host (intern name)) machine (sym f)
+  all_tests : failing (tests (host k) s l) ≡ failing (name_tests (found s l) ++ own)
+  unfolding tests
+  all_tests = ap failing (after (found s l))
 
--- ---- a small name
+  pub intern-refused : (e : ℕ) → some e ≡ failing (name_tests (found s l)) → refuses e called ≡ perform (host k) called
+  intern-refused e f = refused-is (host k) called e (all_tests ∙ failing-here (name_tests (found s l)) own e (sym f))
 
-module _ (s : State) (l : Lent) (n w : ℕ) where
-  abbrev small_machine : Machine
-  small_machine = machine_of s l
+  module _ (f : none ≡ failing (name_tests (found s l))) where
+    own_tests : failing (tests (host k) s l) ≡ failing own
+    own_tests = all_tests ∙ failing_later (name_tests (found s l)) own (sym f)
 
-  -- a small name is a name
-  as_name : (t : Option ℕ) (g : Given) → granted t (intern (small_name n w)) small_machine g ≡ granted t (intern_small n w) small_machine g
-  unfolding granted host_leaves
-  as_name none g = refl
-  as_name (some e) g = refl
+    pub intern-not_named : (e : ℕ) → some e ≡ failing own → refuses e called ≡ perform (host k) called
+    intern-not_named e g = refused-is (host k) called e (own_tests ∙ sym g)
 
-  pub small_refused : (e : ℕ) → some e ≡ failing (name_tests (found s small_machine.lent))
-      → refuses e small_machine ≡ perform (host (intern_small n w)) small_machine
-  unfolding tests tests_by
-  small_refused e f = refused-is (host (intern_small n w)) small_machine _ (failing-here (name_tests (found s small_machine.lent)) _ _ (sym f))
-
-  module _ (f : none ≡ failing (name_tests (found s small_machine.lent))) where
-    small_tests : failing (tests (host (intern_small n w)) s small_machine.lent) ≡ failing (test (small_ok n w) 17 ∷ [])
-    unfolding tests tests_by
-    small_tests = failing_later (name_tests (found s small_machine.lent)) _ (sym f)
-
-    pub small_17 : small_ok n w ≡ false → refuses 17 small_machine ≡ perform (host (intern_small n w)) small_machine
-    unfolding failing
-    small_17 k = refused-is (host (intern_small n w)) small_machine 17 (small_tests ∙ rw k refl)
-
-    pub small_told : small_ok n w ≡ true → (len word : ℕ) → len ≡ n → word ≡ w → (x : Called)
-        → x ≡ host_call (intern (small_name len word)) small_machine (interned (small_name len word) (memory_of small_machine))
-        → x ≡ perform (host (intern_small n w)) small_machine
-    unfolding act hosted host_call failing
-    small_told k len word p q x e =
-        (rw (p, q) at e) ∙ as_name _ _ ∙ acted_is (host (intern_small n w)) small_machine (small_tests ∙ rw k refl)
+    pub intern-told : none ≡ failing own → (name : List ℕ) → Interns k name → (x : Called)
+        → x ≡ host_call (intern name) called (interned name (memory_of called)) → x ≡ perform (host k) called
+    unfolding act hosted
+    intern-told g name interns x e = e ∙ sym (interns called) ∙ acted_is (host k) called (own_tests ∙ sym g)

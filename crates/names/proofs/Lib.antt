@@ -1,4 +1,5 @@
 -- The laws of an interning.
 pub mod Tests
 pub mod NameBlock
+pub mod Calls
 pub mod Interning

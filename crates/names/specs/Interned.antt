@@ -7,6 +7,7 @@ use Rattle.gc.specs.Lent.{page_size, InHeap}
 use Rattle.vm.specs.declared.State.{State}
 use Rattle.names.specs.declared.interner.Names.{Names}
 use Rattle.vm.specs.Core.{set_bytes}
+use Rattle.vm.specs.Machine.{Machine, Host, host, intern, act}
 use Rattle.vm.specs.Told.{holding}
 
 -- a block with bytes written into its payload
@@ -32,3 +33,7 @@ names_of s = record { gc = s.gc; strings = s.strings }
 -- a state with the numbers of this heap and table: an interning leaves registers, pc and depth alone
 abbrev pub in_state : State → Names → State
 in_state s n = holding s n.gc n.strings
+
+-- a call that does what the interning of these bytes does, once no test refuses it
+abbrev pub Interns : Host → List ℕ → Type 0
+Interns k s = (m : Machine) → act (host k) m ≡ act (host (intern s)) m

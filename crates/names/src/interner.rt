@@ -6,14 +6,15 @@ ghost use Rattle.str_table.specs.Sound.{sound_of};
 ghost use Rattle.program.specs.Image.{test, failing, refused_with};
 ghost use Rattle.vm.specs.declared.State.{State};
 ghost use Rattle.vm.specs.Names.{fresh, interned};
-ghost use Rattle.vm.specs.Machine.{Lent, lend_names, memory_of, value, intern, intern_small, host, host_call, found, name_tests, perform};
+ghost use Rattle.vm.specs.Machine.{Lent, lend_names, memory_of, value, intern, host, host_call, found, name_tests, perform};
 ghost use Rattle.vm.specs.Told.{machine_of, answer_by, told};
 ghost use Rattle.names.specs.Interned.{name_block, Belong, in_state};
 
+use crate::to_name::ToName;
 use anomaly::Refusal;
 use gc::{AllocType, Gc, Metadata};
 use str_table::StrTable;
-use string::name::{Name, SmallName};
+use string::name::Name;
 use string::payload::{self, Pushed};
 use vm::lent;
 
@@ -115,40 +116,20 @@ impl Names {
         }
     }
 
-    pub fn intern(
+    // 10 and 9, then what the name itself is refused for.
+    pub fn intern<G: ToName>(
         &mut self,
-        s: &[u8],
+        given: G,
         heap: &mut [u8],
         slots: &mut [u64],
         spare: &mut [u64],
     ) -> Result<u64, Refusal>
         ensures { (rest : State) (l : Lent)
             → told (answer_by value result) (in_state rest self.new) (lend_names heap.new slots.new spare.new l)
-            ≡ perform (host (intern s.now))
+            ≡ perform (host (G.call given))
             (machine_of (in_state rest self.old) (lend_names heap.old slots.old spare.old l)) }
     {
         self.check(heap, slots, spare)?;
-        self.known(s, heap, slots, spare)
-    }
-
-    // `intern` of the `len` bytes that `word` packs.
-    pub fn intern_small(
-        &mut self,
-        len: usize,
-        word: u64,
-        heap: &mut [u8],
-        slots: &mut [u64],
-        spare: &mut [u64],
-    ) -> Result<u64, Refusal>
-        ensures { (rest : State) (l : Lent)
-            → told (answer_by value result) (in_state rest self.new) (lend_names heap.new slots.new spare.new l)
-            ≡ perform (host (intern_small len word))
-            (machine_of (in_state rest self.old) (lend_names heap.old slots.old spare.old l)) }
-    {
-        self.check(heap, slots, spare)?;
-        let Some(name) = SmallName::new(len, word) else {
-            return Err(Refusal::SmallString);
-        };
-        self.known(name, heap, slots, spare)
+        self.known(given.to_name()?, heap, slots, spare)
     }
 }

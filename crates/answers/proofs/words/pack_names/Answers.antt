@@ -1,7 +1,0 @@
--- `answers::words::pack_names` meets its contract. Assumes nothing.
-use borrow.Author.Rules.{rules}
-use Rattle.answers.proofs.Packing.{names-home}
-use Rattle.answers.proofs.words.pack_names.Goals as goal
-
-pub returns : goal.returns
-returns c = names-home c.args.words.now _ c.args.names (search rules) c.copy_from_slice.ensures.after
