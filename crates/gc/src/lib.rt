@@ -108,76 +108,97 @@ impl Gc {
             & ((self.pushed <= lent)
                 & ((self.page % PAGE_SIZE == 0) & (self.len <= self.pushed - self.page)))
     }
+}
 
+// A heap that is lent: its numbers, and the bytes in which its pages lie.
+#[derive(Drop)]
+pub struct Heap<'a> {
+    pub gc: Gc,
+    pub bytes: &'a mut [u8],
+    pub ghost belongs: { InHeap gc bytes.now },
+}
+
+impl Heap<'_> {
     // A block in the last page, if that can hold it: its address.
-    pub fn alloc_fast(&mut self, m: Metadata, heap: &mut [u8]) -> Option<u64>
-        requires { InHeap self.old heap.old }
-        ensures { outcome result self.new heap.new ≡ fast_of self.old m.flags m.size heap.old }
+    pub fn alloc_fast(&mut self, m: Metadata) -> Option<u64>
+        ensures same_reference { self.new.bytes.ghost_name ≡ self.old.bytes.ghost_name }
+        ensures outcome { outcome result self.new.gc self.new.bytes.now
+            ≡ fast_of self.old.gc m.flags m.size self.old.bytes.now }
     {
         // no sum below passes 2^64
-        if (heap.len() as u64) < m.size {
+        if (self.bytes.len() as u64) < m.size {
             return None;
         }
-        let header = self.len.next_multiple_of(PAYLOAD_ALIGN);
+        let gc = self.gc;
+        let header = gc.len.next_multiple_of(PAYLOAD_ALIGN);
         let len = header + Metadata::SIZE + m.size as usize;
-        if self.pushed - self.page < len {
+        if gc.pushed - gc.page < len {
             return None;
         }
-        let at = self.page + header;
-        m.write(&mut heap[at..]);
-        self.len = len;
-        Some(self.base + (at + Metadata::SIZE) as u64)
+        let at = gc.page + header;
+        m.write(&mut self.bytes[at..]);
+        self.gc.len = len;
+        Some(gc.base + (at + Metadata::SIZE) as u64)
     }
 
     // A page of `cap` bytes behind the others, zeroed.
-    fn push_page(&mut self, cap: usize, heap: &mut [u8])
-        requires { InHeap self.old heap.old × (self.old.pushed + cap ≤ length heap.old) }
-        ensures { (self.new ≡ numbers_of (pushed cap (pages_of self.old heap.old)))
-            × (heap.new ≡ over (pushed cap (pages_of self.old heap.old)).bytes heap.old) }
+    fn push_page(&mut self, cap: usize)
+        requires { self.old.gc.pushed + cap ≤ length self.old.bytes.now }
+        ensures same_reference { self.new.bytes.ghost_name ≡ self.old.bytes.ghost_name }
+        ensures numbers { self.new.gc ≡ numbers_of (pushed cap (pages_of self.old.gc self.old.bytes.now)) }
+        ensures bytes { self.new.bytes.now ≡ over (pushed cap (pages_of self.old.gc self.old.bytes.now)).bytes self.old.bytes.now }
     {
-        self.page = self.pushed;
-        self.pushed += cap;
-        self.len = 0;
-        heap[self.page..self.pushed].fill(0);
+        let page = self.gc.pushed;
+        let pushed = page + cap;
+        self.bytes[page..pushed].fill(0);
+        self.gc = Gc {
+            base: self.gc.base,
+            pushed,
+            page,
+            len: 0,
+        };
     }
 
     // A page that can hold a block of `size` bytes; whether the lent heap has so much left.
-    pub fn grow(&mut self, size: u64, heap: &mut [u8]) -> bool
-        requires { InHeap self.old heap.old }
-        ensures { growth result self.new heap.new
-            ≡ extended_in (pushed (grow_of page_size size) (pages_of self.old heap.old)) self.old heap.old }
+    pub fn grow(&mut self, size: u64) -> bool
+        ensures same_reference { self.new.bytes.ghost_name ≡ self.old.bytes.ghost_name }
+        ensures growth { growth result self.new.gc self.new.bytes.now
+            ≡ extended_in (pushed (grow_of page_size size) (pages_of self.old.gc self.old.bytes.now)) self.old.gc
+            self.old.bytes.now }
     {
         // no sum below passes 2^64
-        if (heap.len() as u64) < size {
+        if (self.bytes.len() as u64) < size {
             return false;
         }
         let cap = (GROWTH + size as usize).next_multiple_of(PAGE_SIZE);
-        if heap.len() - self.pushed < cap {
+        if self.bytes.len() - self.gc.pushed < cap {
             return false;
         }
-        self.push_page(cap, heap);
+        self.push_page(cap);
         true
     }
 
     // A block in a new page.
-    fn alloc_slow(&mut self, m: Metadata, heap: &mut [u8]) -> Option<u64>
-        requires { InHeap self.old heap.old }
-        ensures { outcome result self.new heap.new ≡ slow_of self.old m.flags m.size heap.old }
+    fn alloc_slow(&mut self, m: Metadata) -> Option<u64>
+        ensures same_reference { self.new.bytes.ghost_name ≡ self.old.bytes.ghost_name }
+        ensures outcome { outcome result self.new.gc self.new.bytes.now
+            ≡ slow_of self.old.gc m.flags m.size self.old.bytes.now }
     {
-        if !self.grow(m.size, heap) {
+        if !self.grow(m.size) {
             return None;
         }
-        self.alloc_fast(m, heap)
+        self.alloc_fast(m)
     }
 
     // A block in the last page if that can hold it, or else in a new one: its address. With no room for it all stays as it was.
-    pub fn alloc(&mut self, m: Metadata, heap: &mut [u8]) -> Option<u64>
-        requires { InHeap self.old heap.old }
-        ensures { outcome result self.new heap.new ≡ alloc_of self.old m.flags m.size heap.old }
+    pub fn alloc(&mut self, m: Metadata) -> Option<u64>
+        ensures same_reference { self.new.bytes.ghost_name ≡ self.old.bytes.ghost_name }
+        ensures outcome { outcome result self.new.gc self.new.bytes.now
+            ≡ alloc_of self.old.gc m.flags m.size self.old.bytes.now }
     {
-        if let Some(address) = self.alloc_fast(m, heap) {
+        if let Some(address) = self.alloc_fast(m) {
             return Some(address);
         }
-        self.alloc_slow(m, heap)
+        self.alloc_slow(m)
     }
 }
