@@ -4,7 +4,7 @@
 ghost use Rattle.std.specs.Prelude.{◌≡◌, ◌≤◌, ◌&&◌, ltb, [], ◌∷◌, length, IfOk};
 ghost use Rattle.memory.specs.Lists.{over};
 ghost use Rattle.gc.specs.Metadata.{bits_of};
-ghost use Rattle.gc.specs.Lent.{InHeap, outcome, granted_in};
+ghost use Rattle.gc.specs.Lent.{outcome, granted_in};
 ghost use Rattle.op.specs.Layout.{is_alignment};
 ghost use Rattle.program.specs.Image.{refused_with, test, failing};
 ghost use Rattle.vm.specs.Machine.{Lent, lend_frames, lend_heap, reset, put_pc, put_reg, setting, allocate, option, host, value, done, perform};
@@ -15,7 +15,7 @@ pub mod lent;
 pub mod start;
 
 use anomaly::Refusal;
-use gc::{AllocType, Gc, Metadata};
+use gc::{AllocType, Gc, Heap, Metadata};
 use op::REGISTER_COUNT;
 use str_table::StrTable;
 
@@ -33,15 +33,16 @@ pub struct State {
 const UNSET: u64 = u64::MAX;
 
 // An Option of two words, a tag and a value.
-fn boxed(gc: &mut Gc, tag: u64, value: u64, heap: &mut [u8]) -> Option<u64>
-    requires { InHeap gc.old heap.old }
-    ensures { outcome result gc.new heap.new
-        ≡ granted_in (block_of (boxed tag value (memory_in gc.old heap.old))) gc.old heap.old }
+fn boxed(heap: &mut Heap, tag: u64, value: u64) -> Option<u64>
+    ensures same_reference { heap.new.bytes.ghost_name ≡ heap.old.bytes.ghost_name }
+    ensures outcome { outcome result heap.new.gc heap.new.bytes.now
+        ≡ granted_in (block_of (boxed tag value (memory_in heap.old.gc heap.old.bytes.now))) heap.old.gc
+        heap.old.bytes.now }
 {
-    let base = gc.base;
-    let address = gc.alloc(Metadata::new(AllocType::Option, false, 16), heap)?;
+    let base = heap.gc.base;
+    let address = heap.alloc(Metadata::new(AllocType::Option, false, 16))?;
     let at = (address - base) as usize;
-    write_box(&mut heap[at..], tag, value);
+    write_box(&mut heap.bytes[at..], tag, value);
     Some(address)
 }
 
@@ -114,8 +115,13 @@ impl State {
         lent::heap_fits(self.gc, heap)?;
         let kind = kind_of(kind, align)?;
         lent::pages_belong(self.gc, heap)?;
-        let header = Metadata::new(kind, false, size);
-        self.gc.alloc(header, heap).ok_or(Refusal::Memory)
+        let mut heap = Heap {
+            gc: self.gc,
+            bytes: heap,
+        };
+        let address = heap.alloc(Metadata::new(kind, false, size));
+        self.gc = heap.gc;
+        address.ok_or(Refusal::Memory)
     }
 
     pub fn new_option(&mut self, payload: Option<u64>, heap: &mut [u8]) -> Result<u64, Refusal>
@@ -125,10 +131,16 @@ impl State {
     {
         lent::heap_fits(self.gc, heap)?;
         lent::pages_belong(self.gc, heap)?;
-        match payload {
+        let Some(v) = payload else {
             // the box that the start made
-            None => Ok(self.gc.base + 16),
-            Some(v) => boxed(&mut self.gc, 1, v, heap).ok_or(Refusal::Memory),
-        }
+            return Ok(self.gc.base + 16);
+        };
+        let mut heap = Heap {
+            gc: self.gc,
+            bytes: heap,
+        };
+        let address = boxed(&mut heap, 1, v);
+        self.gc = heap.gc;
+        address.ok_or(Refusal::Memory)
     }
 }

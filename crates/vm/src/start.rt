@@ -7,7 +7,7 @@ ghost use Rattle.vm.specs.Told.{lent_of, machine_of, start_told, started_on};
 
 use crate::{State, UNSET, boxed, lent};
 use anomaly::Refusal;
-use gc::Gc;
+use gc::{Gc, Heap};
 use program::Image;
 use str_table::StrTable;
 
@@ -39,7 +39,12 @@ fn begin(base: u64, frames: &mut [u64], heap: &mut [u8]) -> State
         → machine_of result (lend_begin frames.new heap.new l) ≡ begin base (lend_begin frames.old heap.old l) }
 {
     let mut state = blank(base);
-    boxed(&mut state.gc, 0, 0, heap);
+    let mut pages = Heap {
+        gc: state.gc,
+        bytes: heap,
+    };
+    boxed(&mut pages, 0, 0);
+    state.gc = pages.gc;
     frames[0] = UNSET;
     state.depth = 1;
     state

@@ -1,4 +1,5 @@
 -- `vm::State::allocate` meets its contract. Assumes nothing.
+use Rattle.std.proofs.Common.{rules}
 use Rattle.std.proofs.lemmas.Result.{err_from_is_err_and}
 use Rattle.gc.specs.Lent.{outcome}
 use Rattle.vm.specs.Machine.{lend_heap}
@@ -21,13 +22,16 @@ returns-in_err-pages_belong c =
     rw (p.1, p.2)
     (allocate_9 _ (lend_heap _ l) _ _ _ c.in_ok-heap_fits.ensures c.in_ok-kind.ensures.test _ c.in_err-pages_belong.ensures)
 
-pub alloc-requires : goal.alloc-requires
-alloc-requires c = pages_sound _ _ c.in_ok-heap_fits.ensures c.in_ok-pages_belong.ensures
+pub invariant_of-heap : goal.invariant_of-heap
+invariant_of-heap c = record { belongs = pages_sound _ _ c.in_ok-heap_fits.ensures c.in_ok-pages_belong.ensures }
 
 pub returns : goal.returns
 returns c =
-    λ l. rw c.ok_or.ensures.value
-    (allocate-told _ (lend_heap _ l) _ _ _
-    (allocate-passed _ (lend_heap _ l) _ _ _ c.in_ok-heap_fits.ensures c.in_ok-kind.ensures.test c.in_ok-pages_belong.ensures)
-    (outcome c.alloc.result c.alloc.new.self c.alloc.new.heap)
-    (rw (c.new-header.ensures.0, c.new-header.ensures.1, c.in_ok-kind.ensures.value) at c.alloc.ensures))
+    λ l.
+    let answered =
+        allocate-told c.args.self.now (lend_heap c.args.heap.now l) c.args.kind c.args.align c.args.size
+        (allocate-passed _ (lend_heap _ l) _ _ _ c.in_ok-heap_fits.ensures c.in_ok-kind.ensures.test c.in_ok-pages_belong.ensures)
+        (outcome c.alloc-address.result c.alloc-address.new.self.gc c.alloc-address.new.self.bytes.now)
+        (rw (c.new.ensures.0, c.new.ensures.1, c.in_ok-kind.ensures.value) at c.alloc-address.ensures.outcome)
+    in
+    rw c.ok_or.ensures.value (search (rules, answered))

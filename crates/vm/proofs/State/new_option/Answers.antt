@@ -1,4 +1,5 @@
 -- `vm::State::new_option` meets its contract. Assumes nothing.
+use Rattle.std.proofs.Common.{rules}
 use native.Mathlib.Omega.{arith}
 use Rattle.std.proofs.lemmas.Result.{err_from_is_err_and}
 use Rattle.gc.specs.Lent.{outcome}
@@ -19,17 +20,20 @@ returns-in_err-pages_belong c =
 pub overflow_add-result : goal.overflow_add-result
 overflow_add-result c = let low = (pages_sound _ _ c.in_ok-heap_fits.ensures c.in_ok-pages_belong.ensures).low in record { fits = omega arith }
 
-pub boxed-requires : goal.boxed-requires
-boxed-requires c = pages_sound _ _ c.in_ok-heap_fits.ensures c.in_ok-pages_belong.ensures
+pub invariant_of-heap : goal.invariant_of-heap
+invariant_of-heap c = record { belongs = pages_sound _ _ c.in_ok-heap_fits.ensures c.in_ok-pages_belong.ensures }
 
-pub returns-in-None : goal.returns-in-None
-returns-in-None c =
-    λ l. rw c.in-None.is
+pub returns-in_default : goal.returns-in_default
+returns-in_default c =
+    λ l. rw c.in_default.is
     (option-none _ (lend_heap _ l) (option-passed _ (lend_heap _ l) _ c.in_ok-heap_fits.ensures c.in_ok-pages_belong.ensures)
     (pages_sound _ _ c.in_ok-heap_fits.ensures c.in_ok-pages_belong.ensures))
 
-pub returns-in-Some : goal.returns-in-Some
-returns-in-Some c =
-    λ l. rw (c.in-Some.is, c.ok_or.ensures.value)
-    (option_some _ (lend_heap _ l) _ (option-passed _ (lend_heap _ l) _ c.in_ok-heap_fits.ensures c.in_ok-pages_belong.ensures)
-    (outcome c.boxed.result c.boxed.new.gc c.boxed.new.heap) c.boxed.ensures)
+pub returns : goal.returns
+returns c =
+    λ l.
+    let answered =
+        option_some c.args.self.now (lend_heap c.args.heap.now l) c.in-Some.v (option-passed _ (lend_heap _ l) _ c.in_ok-heap_fits.ensures c.in_ok-pages_belong.ensures)
+        (outcome c.boxed-address.result c.boxed-address.new.heap.gc c.boxed-address.new.heap.bytes.now) c.boxed-address.ensures.outcome
+    in
+    rw (c.in-Some.is, c.ok_or.ensures.value) (search (rules, answered))
