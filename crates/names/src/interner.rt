@@ -1,7 +1,7 @@
 // Interning: document 01, 'Interning: 9, 17, the value if found, 18, 2', after 10.
 ghost use Rattle.std.specs.Prelude.{◌≡◌, [], ◌∷◌};
 ghost use Rattle.string.specs.Hash.{hash_of};
-ghost use Rattle.gc.specs.Lent.{pages_of, outcome, granted_in, InHeap};
+ghost use Rattle.gc.specs.Lent.{pages_of, outcome, granted_in};
 ghost use Rattle.str_table.specs.Sound.{sound_of};
 ghost use Rattle.program.specs.Image.{test, failing, refused_with};
 ghost use Rattle.vm.specs.declared.State.{State};
@@ -12,7 +12,7 @@ ghost use Rattle.names.specs.Interned.{name_block, Belong, in_state};
 
 use crate::to_name::ToName;
 use anomaly::Refusal;
-use gc::{AllocType, Gc, Metadata};
+use gc::{AllocType, Gc, Heap, Metadata};
 use str_table::StrTable;
 use string::name::Name;
 use string::payload::{self, Pushed};
@@ -26,16 +26,17 @@ pub struct Names {
 }
 
 // A block with the header and the bytes of a name, whose hash is `hash`.
-fn store<N: Name>(gc: &mut Gc, name: N, hash: u32, heap: &mut [u8]) -> Option<u64>
-    requires { InHeap gc.old heap.old }
-    ensures { outcome result gc.new heap.new
-        ≡ granted_in (name_block (N.bytes name) hash (pages_of gc.old heap.old)) gc.old heap.old }
+fn store<N: Name>(heap: &mut Heap, name: N, hash: u32) -> Option<u64>
+    ensures same_reference { heap.new.bytes.ghost_name ≡ heap.old.bytes.ghost_name }
+    ensures outcome { outcome result heap.new.gc heap.new.bytes.now
+        ≡ granted_in (name_block (N.bytes name) hash (pages_of heap.old.gc heap.old.bytes.now)) heap.old.gc
+        heap.old.bytes.now }
 {
-    let base = gc.base;
+    let base = heap.gc.base;
     let size = payload::payload_size(name.len());
-    let address = gc.alloc(Metadata::new(AllocType::String, false, size), heap)?;
+    let address = heap.alloc(Metadata::new(AllocType::String, false, size))?;
     let at = (address - base) as usize;
-    payload::write_payload(&mut heap[at..], name, hash);
+    payload::write_payload(&mut heap.bytes[at..], name, hash);
     Some(address)
 }
 
@@ -80,10 +81,17 @@ impl Names {
         if slots.len() < self.strings.room() {
             return Err(Refusal::TableFull);
         }
-        let address = store(&mut self.gc, name, hash, heap).ok_or(Refusal::Memory)?;
+        let mut heap = Heap {
+            gc: self.gc,
+            bytes: heap,
+        };
+        let stored = store(&mut heap, name, hash);
+        let Heap { gc, bytes } = heap;
+        self.gc = gc;
+        let address = stored.ok_or(Refusal::Memory)?;
         let pages = Pushed {
-            base: self.gc.base,
-            bytes: &heap[..self.gc.pushed],
+            base: gc.base,
+            bytes: &bytes[..gc.pushed],
         };
         self.strings = self.strings.insert(pages, hash, address, slots, spare);
         Ok(address)

@@ -9,14 +9,14 @@ use Rattle.names.proofs.interner.store.Goals.{After-alloc}
 
 -- a String of the name's size was asked for
 block_of : (g : _) (c : After-alloc g)
-    → outcome c.alloc.result c.alloc.new.self c.alloc.new.heap
-    ≡ alloc_of c.args.gc.now 3 (payload_size (length (g.N.Name.bytes c.args.name))) c.args.heap.now
+    → outcome c.alloc.result c.alloc.new.self.gc c.alloc.new.self.bytes.now
+    ≡ alloc_of c.args.heap.now.gc 3 (payload_size (length (g.N.Name.bytes c.args.name))) c.args.heap.now.bytes.now
 block_of g c =
-    rw (c.new.ensures.0, c.new.ensures.1, c.payload_size-size.ensures, c.len.ensures.0) at c.alloc.ensures
+    rw (c.new.ensures.0, c.new.ensures.1, c.payload_size-size.ensures, c.len.ensures.0) at c.alloc.ensures.outcome
 
-pub returns-in_err-address : goal.returns-in_err-address
-returns-in_err-address g c =
-    rw c.from_residual.ensures (store_refused _ _ _ _ _ _ _ (block_of g (goal.at.returns-in_err-address g c).After-alloc) c.in_err-address.was)
+pub returns-in_err-address-clause-outcome : goal.returns-in_err-address-clause-outcome
+returns-in_err-address-clause-outcome g c =
+    rw c.from_residual.ensures (store_refused _ _ _ _ _ _ _ (block_of g (goal.at.returns-in_err-address-clause-outcome g c).After-alloc) c.in_err-address.was)
 
 pub overflow_sub-at : goal.overflow_sub-at
 overflow_sub-at g c = store_above _ (g.N.Name.bytes c.args.name) c.args.hash _ _ _ _
@@ -37,5 +37,5 @@ write_payload-requires g c =
     store_room _ (g.N.Name.bytes c.args.name) c.args.hash _ _ _ _
     (block_of g (goal.at.write_payload-requires g c).After-alloc) _ c.in_ok-address.was
 
-pub returns : goal.returns
-returns g c = store_done _ _ _ _ _ _ _ (block_of g (goal.at.returns g c).After-alloc) _ c.in_ok-address.was _ c.write_payload.ensures
+pub returns-clause-outcome : goal.returns-clause-outcome
+returns-clause-outcome g c = store_done _ _ _ _ _ _ _ (block_of g (goal.at.returns-clause-outcome g c).After-alloc) _ c.in_ok-address.was _ c.write_payload.ensures
