@@ -21,12 +21,13 @@ use Rattle.effects.specs.declared.Stop.{Stop}
 use Rattle.effects.specs.Stops.{number_of_stop}
 use Rattle.effects.specs.declared.Effect.TheVariants as effect
 use Rattle.program.specs.Image.{test, failing}
-use Rattle.instruction.specs.declared.Position.{Position}
+use Rattle.instruction.specs.declared.frames.Frames.{Frames}
+use Rattle.gc.specs.declared.Heap.{Heap}
 use Rattle.vm.specs.Core.{Core, used, short, set_reg, set_regs, set_pc, set_frames, set_memory, set_pages, set_bytes}
 use Rattle.vm.specs.Run.{next, stop, provided, forward, addressed, loaded, stored8, returned, block_to, apply, unless, limited}
 use Rattle.vm.specs.Machine.{Lent, Machine, sizes, lend_frames, lend_heap, memory_of, view, with_pages, traced, with_frames, with_regs, laid}
 use Rattle.vm.specs.declared.State.{State}
-use Rattle.instruction.specs.Turn.{at_pc, at_depth, at_gc, machine_at, Fitting, place_in, goes, halts, stops, Turned, turned, turn}
+use Rattle.instruction.specs.Turn.{Position, at_pc, at_depth, at_gc, machine_at, standing, lend_in, Fitting, place_in, goes, halts, stops, Turned, turned, turn}
 use Rattle.vm.proofs.Fits.{none_of, fit_frames, short-frames, view-within, view-fits}
 use Rattle.vm.proofs.Replies.{pages-short}
 
@@ -43,6 +44,9 @@ part-take zero k n xs h = take-take k n xs (omega arith)
 part-take (suc i) k n [] h = elim n as (λ (j : ℕ). part (suc i) k (take j []) ≡ part (suc i) k []) [ zero ↦ refl | suc j ↦ refl ]
 part-take (suc i) k zero (x ∷ xs) h = absurd (omega arith)
 part-take (suc i) k (suc n) (x ∷ xs) h = part-take i k n xs (omega arith)
+
+pub low_pushed : (h : Heap) → h.gc.base + h.gc.pushed ≤ 2 ^ 48
+low_pushed h = let low = h.belongs.low in let inside = h.belongs.in_heap in omega arith
 
 -- what a place says of the address
 pub record Reached (g : Gc) (a i : ℕ) : Type 0 where
@@ -138,6 +142,10 @@ module _ (g : Gc) (a : ℕ) where
       place_is t e = rw (← e) (place_by _ _ refl refl)
 
 -- ---- instructions
+
+-- frames and heap fit the buffers in which they lie
+pub fitting : (pc : ℕ) (f : Frames) (h : Heap) (l : Lent) → Fitting (standing pc f h) (lend_in f h l)
+fitting pc f h l = record { deep = f.deep; sound = h.belongs }
 
 module _ (s : State) (at : Position) (regs : List ℕ) (l : Lent) (fit : Fitting at l) where
   abbrev m : Machine
@@ -325,11 +333,11 @@ module _ (s : State) (at : Position) (regs : List ℕ) (l : Lent) (fit : Fitting
     unfolding fits used forward set_pc set_regs set_memory set_pages view
     alloc_short = pages-short m.state l b.pages
 
-    pub turn_no_block : r ≡ std.None → turn (effect.Alloc dst kind n) m ≡ stopped 2 (machine_at s at regs (lend_heap x l))
+    pub turn_no_block : r ≡ std.None → turn (effect.Alloc dst kind n) m ≡ stopped 2 (machine_at s (at_gc g at) regs (lend_heap x l))
     unfolding turn apply limited unless failing block_to alloc_of view memory_of
     turn_no_block q =
         let no = none_said (fits b.pages (length heap)) b at.gc heap x r g q e in
-        rw (alloc_short, no.0, no.2) (stays 2)
+        rw (alloc_short, no.0, no.1, no.2) (stays 2)
 
     pub turn-block : (a : ℕ) → r ≡ std.Some a
         → turn (effect.Alloc dst kind n) m

@@ -2,19 +2,25 @@
 use Rattle.std.specs.Prelude.{ℕ, ◌-◌, ◌%◌, ◌≤◌, cond, ◌&&◌, List, [], length, ◌==◌}
 use Rattle.string.specs.Payload.{reaches}
 use Rattle.gc.specs.declared.Gc.{Gc}
+use Rattle.gc.specs.declared.Heap.{Heap}
 use Rattle.gc.specs.Lent.{InHeap}
 use Rattle.effects.specs.declared.Effect.{Effect}
 use Rattle.effects.specs.Stops.{number_of_stop, IsAnomaly}
 use Rattle.vm.specs.declared.State.{State}
-use Rattle.instruction.specs.declared.Position.{Position}
+use Rattle.instruction.specs.declared.frames.Frames.{Frames}
 use Rattle.instruction.specs.declared.Turn.{Turn}
 use Rattle.instruction.specs.declared.Turn.TheVariants.{Next, Halt, Stop}
 use Rattle.std.specs.Prelude as std
 use Rattle.vm.specs.Run.{Step, next, halted, stop, apply, limited}
-use Rattle.vm.specs.Machine.{Lent, Machine, sizes, keep_regs, keep_pc, keep_depth, keep_gc, view, laid}
+use Rattle.vm.specs.Machine.{Lent, lend_run, Machine, sizes, keep_regs, keep_pc, keep_depth, keep_gc, view, laid}
 use Rattle.vm.specs.Told.{machine_of}
 
 -- ---- what changes from instruction to instruction
+
+pub record Position : Type 0 where
+  pub pc : ℕ
+  pub depth : ℕ
+  pub gc : Gc
 
 -- a position with one part changed
 abbrev pub at_pc : ℕ → Position → Position
@@ -41,6 +47,16 @@ pub record Fitting (at : Position) (l : Lent) : Type 0 where
   pub deep : at.depth ≤ length l.frames
   pub sound : InHeap at.gc l.heap
 
+-- the position of a pc, frames and heap; and the machine over the buffers in which frames and heap lie
+abbrev pub standing : ℕ → Frames → Heap → Position
+standing pc f h = record { pc = pc; depth = f.depth; gc = h.gc }
+
+abbrev pub lend_in : Frames → Heap → Lent → Lent
+lend_in f h l = lend_run f.places.now h.bytes.now l
+
+abbrev pub machine_in : State → ℕ → List ℕ → Frames → Heap → Lent → Machine
+machine_in s pc regs f h l = machine_at s (standing pc f h) regs (lend_in f h l)
+
 -- ---- an instruction
 
 -- the place in the heap of the 8 bytes at an address, if `Load` and `Store` reach them
@@ -66,10 +82,10 @@ unfoldable pub turn : Effect → Machine → Turned
 turn e m = turned m (limited (sizes m.lent) (view m) (apply e (view m)))
 
 -- as the code answers it, with what it leaves
-abbrev pub turn_of : State → Position → List ℕ → Lent → Turn → Turned
-turn_of s at regs l (Next to) = record { how = goes; machine = machine_at s to regs l }
-turn_of s at regs l Halt = record { how = halts; machine = machine_at s at regs l }
-turn_of s at regs l (Stop why) = record { how = stops (number_of_stop why); machine = machine_at s at regs l }
+abbrev pub turn_of : State → ℕ → List ℕ → Frames → Heap → Lent → Turn → Turned
+turn_of s pc regs f h l (Next to) = record { how = goes; machine = machine_in s to regs f h l }
+turn_of s pc regs f h l Halt = record { how = halts; machine = machine_in s pc regs f h l }
+turn_of s pc regs f h l (Stop why) = record { how = stops (number_of_stop why); machine = machine_in s pc regs f h l }
 
 -- a turn that stops by an anomaly, if it stops
 abbrev pub IsListed : Turn → Type 0

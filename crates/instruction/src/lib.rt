@@ -1,41 +1,41 @@
 // One instruction: what it asks for, done to registers, frames and heap.
 #![tactic(auto)]
 
-ghost use Rattle.std.specs.Prelude.{◌≡◌, ℕ, ◌+◌, ◌^◌, ◌<◌, ◌≤◌, List, length};
-ghost use Rattle.gc.specs.Lent.{InHeap};
+ghost use Rattle.std.specs.Prelude.{◌≡◌, ℕ, ◌+◌, ◌^◌, ◌<◌, List};
+ghost use Rattle.gc.specs.declared.Heap.{Heap};
 ghost use Rattle.effects.specs.declared.Effect.{Effect};
 ghost use Rattle.effects.specs.Stops.{EndsListed};
 ghost use Rattle.effects.specs.declared.Stop.TheVariants as stop;
 ghost use Rattle.vm.specs.declared.State.{State};
-ghost use Rattle.vm.specs.Machine.{Lent, lend_frames, lend_heap, lend_run};
-ghost use Rattle.instruction.specs.Turn.{at_pc, machine_at, Fitting, place_in, turn, turn_of, IsListed};
-ghost use Rattle.instruction.specs.declared.Position.{Position};
+ghost use Rattle.vm.specs.Machine.{Lent};
+ghost use Rattle.instruction.specs.declared.frames.Frames.{Frames};
+ghost use Rattle.instruction.specs.Turn.{machine_in, place_in, turn, turn_of, IsListed};
+
+pub mod frames;
 
 use anomaly::Anomaly;
 use effects::{Effect, Stop};
-use gc::{AllocType, Gc, HEAP_END, Metadata};
+use frames::Frames;
+use gc::{AllocType, HEAP_END, Heap, Metadata};
 use op::Reg;
 
-// What changes from instruction to instruction, beside registers, frames and heap.
-#[derive(Clone, Copy)]
-pub struct Position {
-    pub pc: usize,
-    pub depth: usize,
-    pub gc: Gc,
-}
-
-// What an instruction comes to. Where it stops nothing was done.
+// What an instruction comes to: the place of the next, or no next. Where it stops nothing was done.
 #[derive(Clone, Copy)]
 pub enum Turn {
-    Next(Position),
+    Next(usize),
     Halt,
     Stop(Stop),
 }
 
+fn stopped(why: Anomaly) -> Turn
+    ensures { result ≡ Turn.Stop (stop.Anomaly why) }
+{
+    Turn::Stop(Stop::Anomaly(why))
+}
+
 // Where in the heap an address lies: 'an unwrapped sum that is a multiple of 8 and wholly in pushed pages'
-fn reach(gc: Gc, base: u64, offset: u64) -> Option<usize>
-    requires { gc.base + gc.pushed ≤ 2 ^ 48 }
-    ensures { result ≡ place_in gc (base + offset) }
+fn reach(heap: &Heap, base: u64, offset: u64) -> Option<usize>
+    ensures { result ≡ place_in heap.now.gc (base + offset) }
 {
     // no sum below passes 2^64
     if (HEAP_END <= base) | (HEAP_END <= offset) {
@@ -43,8 +43,8 @@ fn reach(gc: Gc, base: u64, offset: u64) -> Option<usize>
     }
     let address = base + offset;
     // an address below the heap wraps to one above it
-    let at = address.wrapping_sub(gc.base);
-    let pushed = gc.pushed as u64;
+    let at = address.wrapping_sub(heap.gc.base);
+    let pushed = heap.gc.pushed as u64;
     if pushed <= at {
         return None;
     }
@@ -54,152 +54,124 @@ fn reach(gc: Gc, base: u64, offset: u64) -> Option<usize>
     Some(at as usize)
 }
 
-impl Position {
-    fn to(self, pc: usize) -> Turn
-        ensures { result ≡ Turn.Next (at_pc pc self) }
-    {
-        Turn::Next(Position { pc, ..self })
-    }
-}
-
-fn set(at: Position, dst: Reg, value: u64, regs: &mut [u64; 32]) -> Turn
-    requires { at.pc + 1 < 2 ^ 64 }
-    ensures turned { (s : State) (l : Lent)
-        → Fitting at l
-        → turn_of s at regs.new l result ≡ turn (Effect.Set dst value) (machine_at s at regs.old l) }
+fn set(pc: usize, dst: Reg, value: u64, regs: &mut [u64; 32]) -> Turn
+    requires { pc + 1 < 2 ^ 64 }
+    ensures turned { (s : State) (frames : Frames) (heap : Heap) (l : Lent)
+        → turn_of s pc regs.new frames heap l result
+        ≡ turn (Effect.Set dst value) (machine_in s pc regs.old frames heap l) }
     ensures listed { IsListed result }
 {
     dst.write(regs, value);
-    at.to(at.pc + 1)
+    Turn::Next(pc + 1)
 }
 
-fn call(at: Position, func: usize, frames: &mut [u64]) -> Turn
-    requires { at.depth ≤ length frames.old }
-    ensures turned { (s : State) (regs : List ℕ) (l : Lent)
-        → Fitting at (lend_frames frames.old l)
-        → turn_of s at regs (lend_frames frames.new l) result
-        ≡ turn (Effect.Call func) (machine_at s at regs (lend_frames frames.old l)) }
+fn call(pc: usize, func: usize, frames: &mut Frames) -> Turn
+    ensures same_frames { frames.new.places.ghost_name ≡ frames.old.places.ghost_name }
+    ensures turned { (s : State) (regs : List ℕ) (heap : Heap) (l : Lent)
+        → turn_of s pc regs frames.new heap l result
+        ≡ turn (Effect.Call func) (machine_in s pc regs frames.old heap l) }
     ensures listed { IsListed result }
 {
-    let depth = at.depth;
-    if frames.len() <= depth {
+    if !frames.push(pc as u64) {
         return stopped(Anomaly::StackOverflow);
     }
-    frames[depth] = at.pc as u64;
-    Turn::Next(Position {
-        pc: func,
-        depth: depth + 1,
-        ..at
-    })
+    Turn::Next(func)
 }
 
 // Back behind the `Call` that a frame holds the place of.
-fn ret(at: Position, frames: &[u64]) -> Turn
-    requires { at.depth ≤ length frames.now }
-    ensures turned { (s : State) (regs : List ℕ) (l : Lent)
-        → Fitting at (lend_frames frames.now l)
-        → turn_of s at regs (lend_frames frames.now l) result
-        ≡ turn Effect.Ret (machine_at s at regs (lend_frames frames.now l)) }
+fn ret(pc: usize, frames: &mut Frames) -> Turn
+    ensures same_frames { frames.new.places.ghost_name ≡ frames.old.places.ghost_name }
+    ensures turned { (s : State) (regs : List ℕ) (heap : Heap) (l : Lent)
+        → turn_of s pc regs frames.new heap l result
+        ≡ turn Effect.Ret (machine_in s pc regs frames.old heap l) }
     ensures listed { IsListed result }
 {
-    if at.depth == 0 {
+    let Some(place) = frames.pop() else {
         return stopped(Anomaly::FrameUnderflow);
-    }
-    let depth = at.depth - 1;
-    let pc = frames[depth].wrapping_add(1) as usize;
-    Turn::Next(Position { pc, depth, ..at })
+    };
+    Turn::Next(place.wrapping_add(1) as usize)
 }
 
-fn load(at: Position, dst: Reg, base: u64, offset: u64, regs: &mut [u64; 32], heap: &[u8]) -> Turn
-    requires { (at.pc + 1 < 2 ^ 64) × InHeap at.gc heap.now }
-    ensures turned { (s : State) (l : Lent)
-        → Fitting at (lend_heap heap.now l)
-        → turn_of s at regs.new (lend_heap heap.now l) result
-        ≡ turn (Effect.Load dst base offset) (machine_at s at regs.old (lend_heap heap.now l)) }
+fn load(pc: usize, dst: Reg, base: u64, offset: u64, regs: &mut [u64; 32], heap: &Heap) -> Turn
+    requires { pc + 1 < 2 ^ 64 }
+    ensures turned { (s : State) (frames : Frames) (l : Lent)
+        → turn_of s pc regs.new frames heap.now l result
+        ≡ turn (Effect.Load dst base offset) (machine_in s pc regs.old frames heap.now l) }
     ensures listed { IsListed result }
 {
-    let Some(i) = reach(at.gc, base, offset) else {
+    let Some(i) = reach(heap, base, offset) else {
         return stopped(Anomaly::BadAddress);
     };
-    dst.write(regs, memory::load::<8>(heap, i));
-    at.to(at.pc + 1)
+    dst.write(regs, memory::load::<8>(heap.bytes, i));
+    Turn::Next(pc + 1)
 }
 
-fn store(at: Position, base: u64, offset: u64, value: u64, heap: &mut [u8]) -> Turn
-    requires { (at.pc + 1 < 2 ^ 64) × InHeap at.gc heap.old }
-    ensures turned { (s : State) (regs : List ℕ) (l : Lent)
-        → Fitting at (lend_heap heap.old l)
-        → turn_of s at regs (lend_heap heap.new l) result
-        ≡ turn (Effect.Store base offset value) (machine_at s at regs (lend_heap heap.old l)) }
+fn store(pc: usize, base: u64, offset: u64, value: u64, heap: &mut Heap) -> Turn
+    requires { pc + 1 < 2 ^ 64 }
+    ensures same_heap { heap.new.bytes.ghost_name ≡ heap.old.bytes.ghost_name }
+    ensures turned { (s : State) (regs : List ℕ) (frames : Frames) (l : Lent)
+        → turn_of s pc regs frames heap.new l result
+        ≡ turn (Effect.Store base offset value) (machine_in s pc regs frames heap.old l) }
     ensures listed { IsListed result }
 {
-    let Some(i) = reach(at.gc, base, offset) else {
+    let Some(i) = reach(heap, base, offset) else {
         return stopped(Anomaly::BadAddress);
     };
-    memory::store::<8>(heap, i, value);
-    at.to(at.pc + 1)
+    memory::store::<8>(heap.bytes, i, value);
+    Turn::Next(pc + 1)
 }
 
 fn alloc(
-    at: Position,
+    pc: usize,
     dst: Reg,
     kind: AllocType,
     size: u64,
     regs: &mut [u64; 32],
-    heap: &mut [u8],
+    heap: &mut Heap,
 ) -> Turn
-    requires { (at.pc + 1 < 2 ^ 64) × InHeap at.gc heap.old }
-    ensures turned { (s : State) (l : Lent)
-        → Fitting at (lend_heap heap.old l)
-        → turn_of s at regs.new (lend_heap heap.new l) result
-        ≡ turn (Effect.Alloc dst kind size) (machine_at s at regs.old (lend_heap heap.old l)) }
+    requires { pc + 1 < 2 ^ 64 }
+    ensures same_heap { heap.new.bytes.ghost_name ≡ heap.old.bytes.ghost_name }
+    ensures turned { (s : State) (frames : Frames) (l : Lent)
+        → turn_of s pc regs.new frames heap.new l result
+        ≡ turn (Effect.Alloc dst kind size) (machine_in s pc regs.old frames heap.old l) }
     ensures listed { IsListed result }
 {
-    let mut gc = at.gc;
-    let Some(address) = gc.alloc(Metadata::new(kind, false, size), heap) else {
+    let Some(address) = heap.alloc(Metadata::new(kind, false, size)) else {
         return stopped(Anomaly::AllocationFailed);
     };
     dst.write(regs, address);
-    Turn::Next(Position {
-        pc: at.pc + 1,
-        gc,
-        ..at
-    })
-}
-
-fn stopped(why: Anomaly) -> Turn
-    ensures { result ≡ Turn.Stop (stop.Anomaly why) }
-{
-    Turn::Stop(Stop::Anomaly(why))
+    Turn::Next(pc + 1)
 }
 
 pub fn apply(
     effect: Effect,
-    at: Position,
+    pc: usize,
     regs: &mut [u64; 32],
-    frames: &mut [u64],
-    heap: &mut [u8],
+    frames: &mut Frames,
+    heap: &mut Heap,
 ) -> Turn
-    requires { (at.pc + 1 < 2 ^ 64) × ((l : Lent) → Fitting at (lend_run frames.old heap.old l)) }
+    requires { pc + 1 < 2 ^ 64 }
+    ensures same_frames { frames.new.places.ghost_name ≡ frames.old.places.ghost_name }
+    ensures same_heap { heap.new.bytes.ghost_name ≡ heap.old.bytes.ghost_name }
     ensures turned { (s : State) (l : Lent)
-        → turn_of s at regs.new (lend_run frames.new heap.new l) result
-        ≡ turn effect (machine_at s at regs.old (lend_run frames.old heap.old l)) }
+        → turn_of s pc regs.new frames.new heap.new l result
+        ≡ turn effect (machine_in s pc regs.old frames.old heap.old l) }
     ensures listed { EndsListed effect → IsListed result }
 {
     // lent: a match that moves a register out of an effect gets no proof
     match &effect {
-        Effect::Set { dst, value } => set(at, *dst, *value, regs),
-        Effect::Skip => at.to(at.pc + 1),
-        Effect::Goto { target } => at.to(*target),
-        Effect::Call { func } => call(at, *func, frames),
-        Effect::Ret => ret(at, frames),
-        Effect::Load { dst, base, offset } => load(at, *dst, *base, *offset, regs, heap),
+        Effect::Set { dst, value } => set(pc, *dst, *value, regs),
+        Effect::Skip => Turn::Next(pc + 1),
+        Effect::Goto { target } => Turn::Next(*target),
+        Effect::Call { func } => call(pc, *func, frames),
+        Effect::Ret => ret(pc, frames),
+        Effect::Load { dst, base, offset } => load(pc, *dst, *base, *offset, regs, heap),
         Effect::Store {
             base,
             offset,
             value,
-        } => store(at, *base, *offset, *value, heap),
-        Effect::Alloc { dst, kind, size } => alloc(at, *dst, *kind, *size, regs, heap),
+        } => store(pc, *base, *offset, *value, heap),
+        Effect::Alloc { dst, kind, size } => alloc(pc, *dst, *kind, *size, regs, heap),
         Effect::Stop(why) => Turn::Stop(*why),
         Effect::Halt => Turn::Halt,
     }

@@ -1,13 +1,18 @@
 -- `instruction::ret` meets its contract. Assumes nothing.
-use Rattle.std.proofs.Common.{◌≡◌, suc, ◌-◌, sym, arith}
-use Rattle.vm.specs.Machine.{lend_frames}
-use Rattle.instruction.proofs.Turns.{turn_underflow, turn_ret}
+use Rattle.std.proofs.Common.{◌≡◌, suc, sym, arith}
+use Rattle.instruction.specs.Turn.{lend_in}
+use Rattle.instruction.proofs.Turns.{fitting, turn_underflow, turn_ret}
 use Rattle.instruction.proofs.ret.Goals as goal
 
-pub returns-then-at-eq0-clause-turned : goal.returns-then-at-eq0-clause-turned
-returns-then-at-eq0-clause-turned c = λ s regs l fit. rw c.stopped.ensures (sym (turn_underflow s _ regs (lend_frames _ l) fit c.if-at-eq0.true))
+pub returns-in_default-clause-turned : goal.returns-in_default-clause-turned
+returns-in_default-clause-turned c =
+    let none = c.in_default.ensures.popped in
+    λ s regs h l. rw (c.stopped.ensures, c.pop.ensures.places, none.1, ← none.0)
+    (sym (turn_underflow s _ regs (lend_in c.args.frames.now h l) (fitting _ c.args.frames.now h l) none.0))
 
 pub returns-clause-turned : goal.returns-clause-turned
 returns-clause-turned c =
-    let deeper : c.args.at.depth ≡ suc (c.args.at.depth - 1) = omega (arith, c.if-at-eq0.false) in
-    λ s regs l fit. sym (turn_ret s _ regs (lend_frames _ l) fit _ deeper)
+    let top = c.in-Some.ensures.popped in
+    let deeper : c.args.frames.now.depth ≡ suc c.pop.new.self.depth = omega (arith, top.0) in
+    λ s regs h l. rw (c.pop.ensures.places, top.1)
+    (sym (turn_ret s _ regs (lend_in c.args.frames.now h l) (fitting _ c.args.frames.now h l) _ deeper))

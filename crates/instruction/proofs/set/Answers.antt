@@ -1,7 +1,8 @@
 -- `instruction::set` meets its contract. Assumes nothing.
 use Rattle.std.proofs.Common.{sym}
-use Rattle.instruction.proofs.Turns.{turn-set}
+use Rattle.instruction.specs.Turn.{lend_in}
+use Rattle.instruction.proofs.Turns.{fitting, turn-set}
 use Rattle.instruction.proofs.set.Goals as goal
 
 pub returns-clause-turned : goal.returns-clause-turned
-returns-clause-turned c = λ s l fit. rw (c.to.ensures, c.write.ensures) (sym (turn-set s _ _ l fit _ _))
+returns-clause-turned c = λ s f h l. rw c.write.ensures (sym (turn-set s _ _ (lend_in f h l) (fitting _ f h l) _ _))
