@@ -8,13 +8,12 @@ use Rattle.gc.specs.Lent as Heap
 use Rattle.gc.proofs.Soundness as Soundness
 use Rattle.program.specs.Image.{Image, test, image_tests, failing}
 use Rattle.vm.specs.declared.State.{State}
-use Rattle.instruction.specs.declared.Position.{Position}
 use Rattle.vm.specs.Core.{Core, set_regs, set_pc, set_frames}
 use Rattle.vm.specs.Run.{Ran, go, root, entered, stored}
 use Rattle.vm.specs.Machine.{Lent, Machine, lend_frames, sizes, memory_of, view, with_pages, traced, with_frames, with_regs, laid, run, Called, ended}
 use Rattle.vm.specs.Machine.{ran, idle, runs, run_leaves, run_call, frames_ok, heap_ok, frames_belong, pages_belong, tests_by, tests}
 use Rattle.vm.specs.Told.{machine_of}
-use Rattle.instruction.specs.Turn.{position_of, Fitting}
+use Rattle.instruction.specs.Turn.{Position, position_of, Fitting}
 use Rattle.run.specs.Loop.{Going, Finished, finishes, finished, stored_pc}
 use Rattle.program.proofs.Tests.{failing-here, failing_later, failing-first}
 use Rattle.vm.proofs.Buffers.{frames_room, heap-low}

@@ -10,14 +10,13 @@ use Rattle.program.specs.Image.{Image}
 use Rattle.effects.specs.Effect.{word_effect}
 use Rattle.effects.specs.Stops.{EndsListed}
 use Rattle.effects.proofs.Inside.{ends_listed}
-use Rattle.instruction.specs.declared.Position.{Position}
 use mathlib.Core.Option.{none}
 use Rattle.vm.specs.declared.State.{State}
 use Rattle.vm.specs.Core.{Core, used, short, ◌⊑◌, set_regs, set_pc}
 use Rattle.vm.specs.Run.{Step, next, halted, stop, asked, fetched, step, Ran, after, go}
 use Rattle.vm.specs.Machine.{Lent, Machine, sizes, unlent, memory_of, view, with_pages, traced, with_frames, with_regs, laid, blank}
 use Rattle.vm.specs.Loaded.{Loaded}
-use Rattle.instruction.specs.Turn.{position_of, machine_at, goes, halts, stops, Turned, turned, turn}
+use Rattle.instruction.specs.Turn.{Position, position_of, machine_at, goes, halts, stops, Turned, turned, turn}
 use Rattle.run.specs.Loop.{Going, Finished, finishes, finished}
 use Rattle.vm.proofs.Fits.{fits_of, view-within, view-fits}
 use Rattle.vm.proofs.Upward.{go-next, go-halted, go-stop}

@@ -2,13 +2,14 @@
 use Rattle.std.specs.Prelude.{ℕ, ◌+◌, ◌<◌, cond, ◌||◌, List, take, ◌==◌}
 use Rattle.program.specs.Image.{Image}
 use Rattle.vm.specs.declared.State.{State}
-use Rattle.instruction.specs.declared.Position.{Position}
-use Rattle.instruction.specs.Turn.{state_at, machine_at, Fitting}
+use Rattle.gc.specs.declared.Heap.{Heap}
+use Rattle.instruction.specs.declared.frames.Frames.{Frames}
+use Rattle.instruction.specs.Turn.{Position, machine_in, Fitting}
 use Rattle.anomaly.specs.Table.{number_of_anomaly}
 use Rattle.run.specs.declared.Ending.{Ending}
 use Rattle.run.specs.declared.Ended.{Ended}
 use Rattle.vm.specs.Run.{Ran, go}
-use Rattle.vm.specs.Machine.{Lent, Machine, sizes, keep_pc, view, laid}
+use Rattle.vm.specs.Machine.{Lent, Machine, sizes, view, laid}
 use Rattle.vm.specs.Loaded.{Returns}
 
 -- ---- what the loop keeps
@@ -40,12 +41,9 @@ number_of_ending (Ending.Stopped why) = number_of_anomaly why
 unfoldable pub finished : Image → ℕ → ℕ → Machine → Finished
 finished im b n m = finishes n m (go (sizes m.lent) im b (view m))
 
-abbrev pub finished_at : State → List ℕ → Lent → Ended → Finished
-finished_at s regs l r = record { ending = number_of_ending r.ending; steps = r.steps; machine = machine_at s r.at regs l }
+abbrev pub finished_in : State → List ℕ → Frames → Heap → Lent → Ended → Finished
+finished_in s regs f h l r = record { ending = number_of_ending r.ending; steps = r.steps; machine = machine_in s r.pc regs f h l }
 
--- the state after a run: 'After every end but 0 and 5 the stored pc is the one from before the run'
+-- the pc after a run: 'After every end but 0 and 5 the stored pc is the one from before the run'
 abbrev pub stored_pc : ℕ → ℕ → ℕ → ℕ
 stored_pc e first pc = cond (e == 0 || e == 5) pc first
-
-abbrev pub stored_in : State → List ℕ → Ended → State
-stored_in s regs e = keep_pc (stored_pc (number_of_ending e.ending) s.pc e.at.pc) (state_at s e.at regs)

@@ -8,14 +8,16 @@ ghost use Rattle.effects.specs.Stops.{number_of_stop, IsAnomaly};
 ghost use Rattle.vm.specs.declared.State.{State};
 ghost use Rattle.program.specs.Image.{image_tests, failing, refused_with};
 ghost use Rattle.program.specs.Words.{image_in};
-ghost use Rattle.vm.specs.Machine.{Lent, lend_run, run, tests, run_call, perform, ended};
+ghost use Rattle.vm.specs.Machine.{Lent, lend_run, keep_pc, run, tests, run_call, perform, ended};
 ghost use Rattle.vm.specs.Told.{machine_of, answer_of, told};
-ghost use Rattle.instruction.specs.Turn.{machine_at};
-ghost use Rattle.run.specs.Loop.{Going, finished, finished_at, number_of_ending, stored_in};
+ghost use Rattle.instruction.specs.Turn.{standing, lend_in, machine_in};
+ghost use Rattle.run.specs.Loop.{Going, finished, finished_in, number_of_ending, stored_pc};
 
 use anomaly::{Anomaly, End, Refusal, Steps};
 use effects::Stop;
-use instruction::{Position, Turn, apply};
+use gc::Heap;
+use instruction::frames::Frames;
+use instruction::{Turn, apply};
 use program::Image;
 use vm::{State, lent};
 
@@ -31,7 +33,7 @@ enum Ending {
 #[derive(Clone, Copy)]
 struct Ended {
     ending: Ending,
-    at: Position,
+    pc: usize,
     steps: Steps,
 }
 
@@ -48,39 +50,41 @@ fn anomaly(why: Stop) -> Anomaly
 
 // The loop, an instruction a turn. It does not test its pc: every turn leaves it inside the code.
 fn go(
-    from: Position,
+    from: usize,
     budget: Steps,
     regs: &mut [u64; 32],
     image: &Image,
-    frames: &mut [u64],
-    heap: &mut [u8],
+    frames: &mut Frames,
+    heap: &mut Heap,
 ) -> Ended
     requires passed { failing (image_tests true image.now) ≡ none }
-    requires going { (l : Lent) → Going (length image.now.code) from (lend_run frames.old heap.old l) }
-    ensures { (s : State) (l : Lent)
-        → finished_at s regs.new (lend_run frames.new heap.new l) result
-        ≡ finished image.now budget 0
-        (machine_at s from regs.old (lend_run frames.old heap.old l)) }
+    requires going { (l : Lent)
+        → Going (length image.now.code) (standing from frames.old heap.old) (lend_in frames.old heap.old l) }
+    ensures same_frames { frames.new.places.ghost_name ≡ frames.old.places.ghost_name }
+    ensures same_heap { heap.new.bytes.ghost_name ≡ heap.old.bytes.ghost_name }
+    ensures finished { (s : State) (l : Lent)
+        → finished_in s regs.new frames.new heap.new l result
+        ≡ finished image.now budget 0 (machine_in s from regs.old frames.old heap.old l) }
 {
     let code = image.code();
-    let mut at = from;
+    let mut pc = from;
     for steps in 0..budget {
-        let effect = meaning::word_effect(code[at.pc], regs, image);
-        match apply(effect, at, regs, frames, heap) {
+        let effect = meaning::word_effect(code[pc], regs, image);
+        match apply(effect, pc, regs, frames, heap) {
             Turn::Next(to) => {
-                at = to;
+                pc = to;
             }
             Turn::Halt => {
                 return Ended {
                     ending: Ending::Halt,
-                    at,
+                    pc,
                     steps: steps + 1,
                 };
             }
             Turn::Stop(why) => {
                 return Ended {
                     ending: Ending::Stopped(anomaly(why)),
-                    at,
+                    pc,
                     steps,
                 };
             }
@@ -88,7 +92,7 @@ fn go(
     }
     Ended {
         ending: Ending::Budget,
-        at,
+        pc,
         steps: budget,
     }
 }
@@ -100,21 +104,18 @@ fn idle(pc: usize) -> End
     End::Halt { pc, steps: 0 }
 }
 
-// After every end but 0 and 5 the stored pc is the one from before the run. The registers are already the state's.
+// After every end but 0 and 5 the stored pc is the one from before the run. The rest of the state is as the run left it.
 fn finish(state: &mut State, e: Ended) -> End
-    ensures { (answer_of result ≡ ended (number_of_ending e.ending) e.at.pc e.steps)
-        × (state.new ≡ stored_in state.old state.old.regs e) }
+    ensures { (answer_of result ≡ ended (number_of_ending e.ending) e.pc e.steps)
+        × (state.new ≡ keep_pc (stored_pc (number_of_ending e.ending) state.old.pc e.pc) state.old) }
 {
-    let Position { pc, depth, gc } = e.at;
-    let steps = e.steps;
-    let (end, stored) = match e.ending {
+    let Ended { ending, pc, steps } = e;
+    let (end, stored) = match ending {
         Ending::Halt => (End::Halt { pc, steps }, pc),
         Ending::Budget => (End::Budget { pc, steps }, pc),
         Ending::Stopped(why) => (End::Stopped { why, pc, steps }, state.pc),
     };
     state.pc = stored;
-    state.depth = depth;
-    state.gc = gc;
     end
 }
 
@@ -140,12 +141,24 @@ fn run_checked(
     if code.len() <= state.pc {
         return idle(state.pc);
     }
-    let from = Position {
-        pc: state.pc,
+    let mut frames = Frames {
         depth: state.depth,
-        gc: state.gc,
+        places: frames,
     };
-    let e = go(from, budget, &mut state.regs, image, frames, heap);
+    let mut heap = Heap {
+        gc: state.gc,
+        bytes: heap,
+    };
+    let e = go(
+        state.pc,
+        budget,
+        &mut state.regs,
+        image,
+        &mut frames,
+        &mut heap,
+    );
+    state.depth = frames.depth;
+    state.gc = heap.gc;
     finish(state, e)
 }
 

@@ -22,8 +22,8 @@ first_pc FrameUnderflow first pc = refl
 pub returns : goal.returns
 unfolding answer_of
 returns c =
-    elim c.match-e.branch [
+    elim c.match-ending.branch [
       | in-Halt w ↦ rw (w.end-is, w.in-Halt.is) (refl, refl)
       | in-Budget w ↦ rw (w.end-is, w.in-Budget.is) (refl, refl)
-      | in-Stopped w ↦ rw (w.end-is, w.in-Stopped.is) (refl, rw (← first_pc w.in-Stopped.why c.args.state.now.pc c.args.e.at.pc) refl)
+      | in-Stopped w ↦ rw (w.end-is, w.in-Stopped.is) (refl, rw (← first_pc w.in-Stopped.why c.args.state.now.pc c.args.e.pc) refl)
     ]

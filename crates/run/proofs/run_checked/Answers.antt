@@ -1,5 +1,5 @@
 -- `run::run_checked` meets its contract. Assumes nothing.
-use Rattle.std.proofs.Common.{length, List, ℕ, sym, ap, ◌∙◌, arith, eqb-true, length-set}
+use Rattle.std.proofs.Common.{length, List, ℕ, sym, ap, ◌∙◌, arith, eqb-true, rules}
 use borrow.Author.Tests.{eqb-false}
 use Rattle.vm.specs.Machine.{lend_run, unlent, with_regs}
 use Rattle.vm.specs.Told.{answer_of}
@@ -23,6 +23,22 @@ returns-then-code-state c =
     λ l. rw c.idle-then-code-state.ensures
     (run_past _ _ _ (lend_run _ _ l) (c.requires l) (root_is _ _ words) (omega (arith, words, some)) (omega (arith, words, c.if-code-state.true)))
 
+pub invariant_of-frames : goal.invariant_of-frames
+invariant_of-frames c =
+    let words = ap (λ (ws : List ℕ). length ws) c.code-code.ensures in
+    record {
+      deep = (going _ _ _ (lend_run _ _ unlent) (c.requires unlent) (root_is _ _ words)
+          (omega (arith, words, c.if-code-state.false))).fitting.deep;
+    }
+
+pub invariant_of-heap : goal.invariant_of-heap
+invariant_of-heap c =
+    let words = ap (λ (ws : List ℕ). length ws) c.code-code.ensures in
+    record {
+      belongs = (going _ _ _ (lend_run _ _ unlent) (c.requires unlent) (root_is _ _ words)
+          (omega (arith, words, c.if-code-state.false))).fitting.sound;
+    }
+
 pub go-e-requires-clause-passed : goal.go-e-requires-clause-passed
 go-e-requires-clause-passed c = image-passed _ _ _ (lend_run _ _ unlent) (c.requires unlent)
 
@@ -31,13 +47,13 @@ go-e-requires-clause-going c =
     let words = ap (λ (ws : List ℕ). length ws) c.code-code.ensures in
     λ l. going _ _ _ (lend_run _ _ l) (c.requires l) (root_is _ _ words) (omega (arith, words, c.if-code-state.false))
 
-pub shape_of-frames : goal.shape_of-frames
-shape_of-frames c = c.go-e.auto.frames ∙ length-set c.args.frames.now 0 _
-
 pub returns : goal.returns
 unfolding with_regs
 returns c =
     let words = ap (λ (ws : List ℕ). length ws) c.code-code.ensures in
-    λ l. rw (c.finish.ensures.0, c.finish.ensures.1)
-    (run-goes _ _ _ (lend_run _ _ l) (c.requires l) (root_is _ _ words) (omega (arith, words, c.if-code-state.false)) _
-    (c.go-e.ensures c.args.state.now l))
+    λ l.
+    let ran =
+    run-goes _ _ _ (lend_run c.args.frames.now c.args.heap.now l) (c.requires l) (root_is _ _ words)
+    (omega (arith, words, c.if-code-state.false)) _ (c.go-e.ensures.finished c.args.state.now l)
+    in
+    rw (c.finish.ensures.0, c.finish.ensures.1) (search (rules, ran))
