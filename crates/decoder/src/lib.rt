@@ -102,8 +102,8 @@ fn casts_and_memory(w: u64) -> Result<Op, Refusal>
         51 => two(w).map(|(dst, src)| Op::CastToDouble { dst, src }),
         52 => two(w).map(|(dst, src)| Op::CastToBool { dst, src }),
         53 => alloc(w).map(|(dst, kind, size, align)| Op::Alloc {
-            dst,
             kind,
+            dst,
             size,
             align,
         }),

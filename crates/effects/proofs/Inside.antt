@@ -36,7 +36,7 @@ EffectOk n (effect.Call func) = func < n
 EffectOk n effect.Ret = Unit {0}
 EffectOk n (effect.Load dst base offset) = dst < 32
 EffectOk n (effect.Store base offset v) = Unit {0}
-EffectOk n (effect.Alloc dst kind size) = dst < 32
+EffectOk n (effect.Alloc kind dst size) = dst < 32
 EffectOk n (effect.Stop why) = IsAnomaly why
 EffectOk n effect.Halt = Unit {0}
 
@@ -60,7 +60,7 @@ ends_listed n (effect.Call func) o = tt
 ends_listed n effect.Ret o = tt
 ends_listed n (effect.Load dst base offset) o = tt
 ends_listed n (effect.Store base offset v) o = tt
-ends_listed n (effect.Alloc dst kind size) o = tt
+ends_listed n (effect.Alloc kind dst size) o = tt
 ends_listed n (effect.Stop why) o = o
 ends_listed n effect.Halt o = tt
 

@@ -29,6 +29,6 @@ EndsListed (effect.Call func) = Unit {0}
 EndsListed effect.Ret = Unit {0}
 EndsListed (effect.Load dst base offset) = Unit {0}
 EndsListed (effect.Store base offset v) = Unit {0}
-EndsListed (effect.Alloc dst kind size) = Unit {0}
+EndsListed (effect.Alloc kind dst size) = Unit {0}
 EndsListed (effect.Stop why) = IsAnomaly why
 EndsListed effect.Halt = Unit {0}

@@ -43,8 +43,8 @@ pub enum Effect {
         value: u64,
     },
     Alloc {
-        dst: Reg,
         kind: AllocType,
+        dst: Reg,
         size: u64,
     },
     Stop(Stop),

@@ -333,14 +333,14 @@ module _ (s : State) (at : Position) (regs : List ℕ) (l : Lent) (fit : Fitting
     unfolding fits used forward set_pc set_regs set_memory set_pages view
     alloc_short = pages-short m.state l b.pages
 
-    pub turn_no_block : r ≡ std.None → turn (effect.Alloc dst kind n) m ≡ stopped 2 (machine_at s (at_gc g at) regs (lend_heap x l))
+    pub turn_no_block : r ≡ std.None → turn (effect.Alloc kind dst n) m ≡ stopped 2 (machine_at s (at_gc g at) regs (lend_heap x l))
     unfolding turn apply limited unless failing block_to alloc_of view memory_of
     turn_no_block q =
         let no = none_said (fits b.pages (length heap)) b at.gc heap x r g q e in
         rw (alloc_short, no.0, no.1, no.2) (stays 2)
 
     pub turn-block : (a : ℕ) → r ≡ std.Some a
-        → turn (effect.Alloc dst kind n) m
+        → turn (effect.Alloc kind dst n) m
         ≡ went (machine_at s (at_pc (at.pc + 1) (at_gc g at)) (set regs dst a) (lend_heap x l))
     unfolding turn apply limited turned unless failing block_to alloc_of laid with_regs with_frames with_pages traced forward set_pc set_regs set_memory
         set_pages view memory_of

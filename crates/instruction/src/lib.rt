@@ -133,7 +133,7 @@ fn alloc(
     ensures same_heap { heap.new.bytes.ghost_name ≡ heap.old.bytes.ghost_name }
     ensures turned { (s : State) (frames : Frames) (l : Lent)
         → turn_of s pc regs.new frames heap.new l result
-        ≡ turn (Effect.Alloc dst kind size) (machine_in s pc regs.old frames heap.old l) }
+        ≡ turn (Effect.Alloc kind dst size) (machine_in s pc regs.old frames heap.old l) }
     ensures listed { IsListed result }
 {
     let Some(address) = heap.alloc(Metadata::new(kind, false, size)) else {
@@ -171,7 +171,7 @@ pub fn apply(
             offset,
             value,
         } => store(pc, *base, *offset, *value, heap),
-        Effect::Alloc { dst, kind, size } => alloc(pc, *dst, *kind, *size, regs, heap),
+        Effect::Alloc { kind, dst, size } => alloc(pc, *dst, *kind, *size, regs, heap),
         Effect::Stop(why) => Turn::Stop(*why),
         Effect::Halt => Turn::Halt,
     }

@@ -197,11 +197,11 @@ fn effect_of(op: Op, regs: &[u64; 32], image: &Image) -> Effect
             value: Value(src.read(regs)).int_to_bool().0,
         },
         Op::Alloc {
-            dst,
             kind,
+            dst,
             size,
             align: _,
-        } => Effect::Alloc { dst, kind, size },
+        } => Effect::Alloc { kind, dst, size },
         Op::Store { base, offset, src } => Effect::Store {
             base: base.read(regs),
             offset,

@@ -26,7 +26,7 @@ words =
     -- Lookup r4, r2, on Int, table 3
     (0x0000000301020425, Ok (op.Lookup Int 4 2 3)) ∷
     -- Alloc r4, String, alignment 8, size 32
-    (0x0000002008030435, Ok (op.Alloc 4 String 32 8)) ∷
+    (0x0000002008030435, Ok (op.Alloc String 4 32 8)) ∷
     -- Store r2 at r1 + 16
     (0x0000001000020136, Ok (op.Store 1 16 2)) ∷
     -- Sys

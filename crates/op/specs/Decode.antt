@@ -74,7 +74,7 @@ rows =
     row register register unused unused nothing (λ p. op.CastToInt p.one p.two) ∷
     row register register unused unused nothing (λ p. op.CastToDouble p.one p.two) ∷
     row register register unused unused nothing (λ p. op.CastToBool p.one p.two) ∷
-    row register allocKind alignment anyNumber nothing (λ p. op.Alloc p.one (kind_of p.two) p.number p.three) ∷
+    row register allocKind alignment anyNumber nothing (λ p. op.Alloc (kind_of p.two) p.one p.number p.three) ∷
     row register register unused anyNumber nothing (λ p. op.Store p.one p.number p.two) ∷
     row register register unused anyNumber nothing (λ p. op.Load p.one p.two p.number) ∷
     row register register unused anyNumber nothing (λ p. op.AddrOf p.one p.two p.number) ∷

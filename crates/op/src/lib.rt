@@ -296,8 +296,8 @@ pub enum Op {
     },
     // r[dst] = the address of a new block
     Alloc {
-        dst: Reg,
         kind: AllocType,
+        dst: Reg,
         size: u64,
         align: u64,
     },

@@ -97,7 +97,7 @@ module _ (last : ℕ) (small : last < 65536) where
     apply_then effect.Ret = returned_then _
     apply_then (effect.Load dst base offset) = provided_then _ 6 _ (λ r. h)
     apply_then (effect.Store base offset v) = provided_then _ 6 _ (λ r. h)
-    apply_then (effect.Alloc dst kind size) = λ r. h
+    apply_then (effect.Alloc kind dst size) = λ r. h
     apply_then (effect.Stop e) = λ r. h
     apply_then effect.Halt = tt
 

@@ -57,7 +57,7 @@ module _ (P : List ℕ → Memory → Type 0) where
     apply_every effect.Ret = returned_every _ c same
     apply_every (effect.Load dst base offset) = provided_every _ 6 c _ same (sets _ dst _ same)
     apply_every (effect.Store base offset v) = provided_every _ 6 c _ same (stores _ v)
-    apply_every (effect.Alloc dst kind size) = takes dst (bits_of kind) size
+    apply_every (effect.Alloc kind dst size) = takes dst (bits_of kind) size
     apply_every (effect.Stop e) = same
     apply_every effect.Halt = tt
 
@@ -86,7 +86,7 @@ apply_stays (effect.Call func) c = tt
 apply_stays effect.Ret c = returned_stays _ c
 apply_stays (effect.Load dst base offset) c = provided_stays _ 6 c _
 apply_stays (effect.Store base offset v) c = provided_stays _ 6 c _
-apply_stays (effect.Alloc dst kind size) c = tt
+apply_stays (effect.Alloc kind dst size) c = tt
 apply_stays (effect.Stop e) c = refl
 apply_stays effect.Halt c = tt
 

@@ -60,7 +60,7 @@ apply (effect.Load dst base offset) c = provided (addressed c.memory.pages (base
 apply (effect.Store base offset v) c =
     provided (addressed c.memory.pages (base + offset)) 6 c
     (forward (set_memory (set_pages (stored8 (base + offset) v c.memory.pages) c.memory) c))
-apply (effect.Alloc dst kind size) c = block_to dst c (allocated page_size (bits_of kind) size c.memory.pages)
+apply (effect.Alloc kind dst size) c = block_to dst c (allocated page_size (bits_of kind) size c.memory.pages)
 apply (effect.Stop why) c = stop (number_of_stop why) c
 apply effect.Halt c = halted
 

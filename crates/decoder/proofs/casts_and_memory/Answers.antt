@@ -24,7 +24,7 @@ returns-in-52 c =
 pub returns-in-53 : goal.returns-in-53
 unfolding rows decoded_by decode_of
 returns-in-53 c =
-    rw c.in-53.is (mapped _ _ _ (λ (v : ℕ × AllocType × ℕ × ℕ). op.Alloc v.0 v.1 v.2 v.3) _ _ c.alloc.ensures c.map-in-53.ensures.cases (λ y o p. search rules))
+    rw c.in-53.is (mapped _ _ _ (λ (v : ℕ × AllocType × ℕ × ℕ). op.Alloc v.1 v.0 v.2 v.3) _ _ c.alloc.ensures c.map-in-53.ensures.cases (λ y o p. search rules))
 
 pub returns-in-54 : goal.returns-in-54
 unfolding rows decoded_by decode_of
