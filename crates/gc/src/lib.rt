@@ -191,6 +191,7 @@ impl Heap<'_> {
     }
 
     // A block in the last page if that can hold it, or else in a new one: its address. With no room for it all stays as it was.
+    // A call of its own: put into the loop of a run it took the registers of every other instruction.
     #[inline(never)]
     pub fn alloc(&mut self, m: Metadata) -> Option<u64>
         ensures same_reference { self.new.bytes.ghost_name ≡ self.old.bytes.ghost_name }

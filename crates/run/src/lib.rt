@@ -48,7 +48,9 @@ fn anomaly(why: Stop) -> Anomaly
     }
 }
 
-// The loop, an instruction a turn. It does not test its pc: every turn leaves it inside the code.
+// The loop, an instruction a turn. It does not test its pc: every turn leaves it inside the code. A function of its own: in its caller it had
+// fewer registers, and took a seventh more instructions a step.
+#[inline(never)]
 fn go(
     from: usize,
     budget: Steps,
