@@ -1,5 +1,5 @@
 -- `vm::start::start` meets its contract. Assumes nothing.
-use mathlib.Core.Path.{refl, sym, ◌∙◌}
+use mathlib.Core.Path.{refl, sym}
 use Rattle.std.proofs.lemmas.Result.{err_from_is_err_and}
 use Rattle.program.proofs.Images.{refused_10}
 use Rattle.vm.specs.Machine.{Lent}
