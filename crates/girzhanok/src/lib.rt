@@ -101,7 +101,7 @@ pub extern "C" fn girzhanok_set_register(state: &mut [u64], number: usize, value
     answer(called, machine, words)
 }
 
-// `kind` is a number, since C has no enum that holds nothing else: 13 is of any other.
+// `kind` is a number: C can give any, and one that is no kind is refused by 13.
 #[unsafe(no_mangle)]
 pub extern "C" fn girzhanok_allocate(
     state: &mut [u64],
