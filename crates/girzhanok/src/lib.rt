@@ -102,6 +102,7 @@ pub extern "C" fn girzhanok_set_register(state: &mut [u64], number: usize, value
     answer(called, machine, words)
 }
 
+// `kind` is a number: C can give any, and one that is no kind is refused by 13.
 #[unsafe(no_mangle)]
 pub extern "C" fn girzhanok_allocate(
     state: &mut [u64],
@@ -124,7 +125,7 @@ pub extern "C" fn girzhanok_allocate(
     answer_value(called, machine, words, value)
 }
 
-// An option of `payload`, or of none.
+// An option of `payload`, or of none. C has no Option: `some` says which.
 #[unsafe(no_mangle)]
 pub extern "C" fn girzhanok_option(
     state: &mut [u64],
@@ -146,6 +147,7 @@ pub extern "C" fn girzhanok_option(
     answer_value(called, machine, words, value)
 }
 
+// The two internings: C has no generic one, and calls each by its name.
 #[unsafe(no_mangle)]
 pub extern "C" fn girzhanok_intern(
     state: &mut [u64],

@@ -118,15 +118,14 @@ impl Machine {
         )
     }
 
-    fn intern<G: ToName>(&mut self, rt: &impl Print, label: &str, given: G) -> io::Result<()> {
-        let called = names::intern(
-            &mut self.state,
-            given,
-            &mut self.lent.heap,
-            &mut self.lent.slots,
-            &mut self.lent.spare,
-        );
-        print_value(rt, label, called)
+    fn intern<G: ToName>(&mut self, given: G) -> Result<u64, Refusal> {
+        let Lent {
+            heap,
+            slots,
+            spare,
+            ..
+        } = &mut self.lent;
+        names::intern(&mut self.state, given, heap, slots, spare)
     }
 
     fn allocate(
@@ -225,33 +224,37 @@ fn blocks(rt: &impl Print, machine: &mut Machine) -> io::Result<()> {
 }
 
 fn names(rt: &impl Print, machine: &mut Machine) -> io::Result<()> {
-    machine.intern(rt, "intern nothing", b"".as_slice())?;
-    machine.intern(rt, "intern gold", b"gold".as_slice())?;
-    machine.intern(rt, "intern gold again", b"gold".as_slice())?;
-    machine.intern(
+    print_value(rt, "intern nothing", machine.intern(b"".as_slice()))?;
+    print_value(rt, "intern gold", machine.intern(b"gold".as_slice()))?;
+    print_value(rt, "intern gold again", machine.intern(b"gold".as_slice()))?;
+    let word = 0x646c_6f67;
+    print_value(
         rt,
         "intern gold as a word",
-        Small {
-            len: 4,
-            word: 0x646c_6f67,
-        },
+        machine.intern(Small { len: 4, word }),
     )?;
-    machine.intern(rt, "intern 9 bytes as a word", Small { len: 9, word: 0 })
+    print_value(
+        rt,
+        "intern 9 bytes as a word",
+        machine.intern(Small { len: 9, word: 0 }),
+    )
 }
 
 // 30 names more, and one that 64 slots have no room for.
 fn many_names(rt: &impl Print, machine: &mut Machine) -> io::Result<()> {
     for word in 1..31 {
-        let _ = names::intern(
-            &mut machine.state,
-            Small { len: 1, word },
-            &mut machine.lent.heap,
-            &mut machine.lent.slots,
-            &mut machine.lent.spare,
-        );
+        let _ = machine.intern(Small { len: 1, word });
     }
-    machine.intern(rt, "intern the 32nd name", Small { len: 1, word: 30 })?;
-    machine.intern(rt, "intern the 33rd name", Small { len: 1, word: 31 })
+    print_value(
+        rt,
+        "intern the 32nd name",
+        machine.intern(Small { len: 1, word: 30 }),
+    )?;
+    print_value(
+        rt,
+        "intern the 33rd name",
+        machine.intern(Small { len: 1, word: 31 }),
+    )
 }
 
 fn main(rt: HostRuntime) -> io::Result<()> {

@@ -101,6 +101,7 @@ impl State {
     }
 
     // A block of `size` bytes and a kind; its alignment is tested and changes nothing.
+    // The kind is a number, as C gives it: one that is none is refused by 13, and only after 10.
     pub fn allocate(
         &mut self,
         kind: u64,
