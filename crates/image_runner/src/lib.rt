@@ -52,8 +52,7 @@ const LIMITS: [(Section, usize); 6] = [
 fn count(input: &[u8], section: Section) -> usize
     ensures { result ≡ length (section_in section input.now) }
 {
-    let mut none: [u64; 0] = [];
-    sections::gather(input, section, &mut none)
+    sections::gather(input, section, &mut [])
 }
 
 // Whether no section has more numbers than it may.
@@ -94,7 +93,7 @@ fn image_text(input: &[u8]) -> Result<Text, Refusal>
     let mut name = [0u8; MAX_NAME];
     let total = join(input, &mut words);
     // lent one by one: of a struct of `&mut` fields, the second call that is lent them gets no proof
-    Ok(rate(
+    rate(
         input,
         head,
         &mut words[..total],
@@ -103,7 +102,7 @@ fn image_text(input: &[u8]) -> Result<Text, Refusal>
         &mut slots[..slot_count],
         &mut spare[..slot_count],
         &mut name,
-    ))
+    )
 }
 
 // The runner's output for an input: its report, or the number of what it is refused by.

@@ -195,7 +195,8 @@ impl Section {
 }
 
 // One section of a text, laid over a buffer from its start, as far as it goes; how many numbers it
-// has.
+// has. The words are lent, and no list is answered: the runner's rating allocates nothing, and they
+// go on to the machine.
 pub fn gather(s: &[u8], section: Section, buf: &mut [u64]) -> usize
     ensures { (result ≡ length (section_in section s.now))
         × (buf.new ≡ over (section_in section s.now) buf.old) }
