@@ -56,6 +56,7 @@ fn count(input: &[u8], section: Section) -> usize
 }
 
 // Whether no section has more numbers than it may.
+#[tactic(auto, unfolding(crate::specs::Runner::sections_fit))]
 fn sections_fit(input: &[u8]) -> bool
     ensures { result ≡ sections_fit input.now }
 {
@@ -65,6 +66,7 @@ fn sections_fit(input: &[u8]) -> bool
 }
 
 // Whether the runner has room for an image; if not, the answer is 10.
+#[tactic(auto, using(std::proofs::lemmas::Bool::Decides::nat_tests), unfolding(crate::specs::Runner::room_for))]
 fn room_for(input: &[u8], head: Head) -> bool
     ensures { result ≡ room_for head input.now }
 {
