@@ -24,6 +24,7 @@ const SECTIONS: [Section; HEADER] = [
 ];
 
 // The numbers of a section from a place on; the place behind them.
+#[tactic(auto, using(crate::proofs::Joins::section_put))]
 fn put_section(input: &[u8], section: Section, words: &mut [u64], at: usize) -> usize
     requires { at + length (section_in section input.now) ≤ length words.old }
     ensures { Written words.old at (section_in section input.now) words.new result }
