@@ -29,6 +29,7 @@ pub fn all_digits(s: &[u8]) -> bool
 }
 
 // The number of `width` digits that starts at digit `from`, or of as many as there are.
+#[tactic(auto, unfolding(crate::specs::Digits::read_on))]
 pub fn number(p: &[u8], from: usize, width: usize) -> u64
     requires { width ≤ 16 }
     ensures { result ≡ field from width p.now }
