@@ -96,6 +96,7 @@ impl<'a> Numbers<'a> {
     }
 
     // Lays them over a buffer from a place on, as far as it goes; the place behind them.
+    #[tactic(auto, using(crate::proofs::Laying::laying_next, crate::proofs::Laying::laying_end))]
     fn put(self, buf: &mut [u64], at: usize) -> usize
         requires { at + length (numbers_left self) < 2 ^ 64 }
         ensures { Written buf.old at (numbers_left self.entry) buf.new result }
