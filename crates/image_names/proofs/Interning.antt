@@ -1,11 +1,11 @@
 -- Names interned one after the other: what is left from here is what the whole list was. Assumes nothing.
 use mathlib.Core.Path.{◌≡◌, refl, sym, ap, subst, ◌∙◌}
-use Prim.Native.Nat.{ℕ, ◌≤◌, ◌<◌}
+use Prim.Native.Nat.{ℕ, ◌≤◌}
 use mathlib.Core.List.{List, [], ◌∷◌}
 use native.Mathlib.Omega.{arith}
 use lib.ListN.{length, take, set, length-set}
 use Rattle.memory.specs.Lists.{over}
-use Rattle.memory.proofs.Over.{length_over, take-over}
+use Rattle.memory.proofs.Over.{take-over}
 use Rattle.text.specs.declared.sections.Section.TheVariants.{Globals}
 use Rattle.text.specs.Sections.{section_in}
 use Rattle.text.specs.Names.{Name, named, names_in}
@@ -37,14 +37,8 @@ module _ {s : List ℕ} {m₀ : Lent → Machine} {g₀ : List ℕ} {left : List
       within : length bytes ≤ length name
       within = omega (arith, fits.0.short)
 
-      pub bytes-there : len ≤ length name'
-      bytes-there = rw (laid, length_over, count) within
-
       pub bytes_back : take len name' ≡ bytes
       bytes_back = rw (laid, count) (take-over bytes name within)
-
-    pub global-there : length (section_in Globals s) ≤ length g₀ → global < length g
-    global-there h = omega (arith, e.long, fits.0.among)
 
     -- the call of this name
     abbrev its : Lent → Called

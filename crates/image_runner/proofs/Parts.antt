@@ -1,9 +1,9 @@
 -- The parts of the runner's buffers that an image takes. Assumes nothing.
-use mathlib.Core.Path.{◌≡◌, refl, sym, ap, ◌∙◌}
+use mathlib.Core.Path.{◌≡◌, refl, sym, ap}
 use Prim.Native.Nat.{ℕ, zero, suc, ◌*◌, ◌≤◌}
 use mathlib.Core.List.{List, ◌∷◌}
 use native.Mathlib.Omega.{arith}
-use lib.ListN.{length, take, replicate, length-take, length-replicate}
+use lib.ListN.{length, take, replicate, length-replicate}
 use lib.Seq.{length-take-le}
 use Rattle.gc.specs.Lent.{page_size}
 use Rattle.text.specs.declared.Head.{Head}
@@ -15,13 +15,6 @@ pub record Part (xs buf : List ℕ) (n : ℕ) : Type 0 where
   pub inside : n ≤ length buf
   pub long : n ≡ length (take n buf)
   pub is : take n buf ≡ xs
-
--- an image's words
-pub words-part : {xs buf : List ℕ} {n : ℕ} → n ≡ length xs → take n buf ≡ xs → Part xs buf n
-words-part {xs} {buf} {n} count is =
-    let long : length (take n buf) ≡ n = ap (λ (x : List ℕ). length x) is ∙ sym count in
-    let most = sym (length-take n buf) ∙ long in
-    record { inside = omega arith; long = sym long; is = is }
 
 -- zeros, and the first of them
 take-zeros : (n k : ℕ) → n ≤ k → take {A = ℕ} n (replicate k 0) ≡ replicate n 0

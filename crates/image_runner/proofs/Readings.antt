@@ -3,7 +3,6 @@ use mathlib.Core.Path.{◌≡◌, refl}
 use Prim.Native.Nat.{ℕ}
 use mathlib.Core.Bool.{Bool, true, false, cond}
 use mathlib.Core.List.{List}
-use native.Mathlib.Omega.{arith}
 use Rattle.anomaly.specs.declared.Refusal.{Refusal}
 use Rattle.text.specs.declared.Head.{Head}
 use Rattle.std.proofs.Common.{Result, Ok, Err}
@@ -11,10 +10,10 @@ use Rattle.text.specs.Text.{text_ok, head_of, read_of}
 
 read_by : (t : Bool) (h k : Head) → cond {A = Result Head Refusal} t (Ok h) (Err Refusal.Text) ≡ Ok k → (t ≡ true) × (k ≡ h)
 read_by true h k e = (refl, cc)
-read_by false h k e = let z : ◌≡◌ {A = ℕ} 0 1 = cc in absurd (omega arith)
+read_by false h k e = cc
 
 none_by : (t : Bool) (h : Head) (why : Refusal) → cond {A = Result Head Refusal} t (Ok h) (Err Refusal.Text) ≡ Err why → (t ≡ false) × (why ≡ Refusal.Text)
-none_by true h why e = let z : ◌≡◌ {A = ℕ} 0 1 = cc in absurd (omega arith)
+none_by true h why e = cc
 none_by false h why e = (refl, cc)
 
 pub read_head : (s : List ℕ) (h : Head) → read_of s ≡ Ok h → (text_ok s ≡ true) × (h ≡ head_of s)

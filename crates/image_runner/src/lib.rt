@@ -52,11 +52,11 @@ const LIMITS: [(Section, usize); 6] = [
 fn count(input: &[u8], section: Section) -> usize
     ensures { result ≡ length (section_in section input.now) }
 {
-    let mut none: [u64; 0] = [];
-    sections::gather(input, section, &mut none)
+    sections::gather(input, section, &mut [])
 }
 
 // Whether no section has more numbers than it may.
+#[tactic(auto, unfolding(crate::specs::Runner::sections_fit))]
 fn sections_fit(input: &[u8]) -> bool
     ensures { result ≡ sections_fit input.now }
 {
@@ -66,6 +66,7 @@ fn sections_fit(input: &[u8]) -> bool
 }
 
 // Whether the runner has room for an image; if not, the answer is 10.
+#[tactic(auto, using(std::proofs::lemmas::Bool::Decides::nat_tests), unfolding(crate::specs::Runner::room_for))]
 fn room_for(input: &[u8], head: Head) -> bool
     ensures { result ≡ room_for head input.now }
 {
@@ -94,7 +95,7 @@ fn image_text(input: &[u8]) -> Result<Text, Refusal>
     let mut name = [0u8; MAX_NAME];
     let total = join(input, &mut words);
     // lent one by one: of a struct of `&mut` fields, the second call that is lent them gets no proof
-    Ok(rate(
+    rate(
         input,
         head,
         &mut words[..total],
@@ -103,7 +104,7 @@ fn image_text(input: &[u8]) -> Result<Text, Refusal>
         &mut slots[..slot_count],
         &mut spare[..slot_count],
         &mut name,
-    ))
+    )
 }
 
 // The runner's output for an input: its report, or the number of what it is refused by.

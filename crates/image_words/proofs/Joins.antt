@@ -145,9 +145,6 @@ pub record Joining (im : Image) (before : List ℕ) (left : List (List ℕ)) (i 
   pub long : length words ≡ length before
   pub rest : write i (ends end left) (write end (flat left) words) ≡ write 0 (ends 9 (sections_of im)) (write 9 (flat (sections_of im)) before)
 
-pub joining_start : (im : Image) (before : List ℕ) → Joining im before (sections_of im) 0 9 before
-joining_start im before = record { as_many = refl; behind = omega arith; count = refl; long = refl; rest = refl }
-
 module _ {im : Image} {before : List ℕ} {left : List (List ℕ)} {i end : ℕ} {words : List ℕ} (g : Joining im before left i end words)
     (room : length (joined im) ≤ length before) where
   all-counted : left ≡ [] → end ≡ 9 + length (flat (sections_of im))

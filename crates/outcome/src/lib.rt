@@ -2,19 +2,21 @@
 #![tactic(auto)]
 
 ghost use Rattle.std.specs.Prelude.{◌≡◌};
+ghost use Rattle.report.specs.Report.{written_of};
 ghost use Rattle.vm.specs.Told.{answer_of};
 ghost use Rattle.outcome.specs.Outcome.{run_text};
 
-use anomaly::End;
-use report::{Summary, Text, refusal_text, report_text};
+use anomaly::{End, Refusal};
+use report::{Summary, Text, report_text};
 use vm::State;
 
-// The report of a run, or the number by which it was refused.
-pub fn run_text(end: End, state: &State) -> Text
-    ensures { result.bytes ≡ run_text (answer_of end) state.now }
+// The report of a run, or what it was refused by.
+#[tactic(auto, using(crate::proofs::Texts::run_reported), unfolding(vm::specs::Told::answer_of, crate::specs::Outcome::run_text))]
+pub fn run_text(end: End, state: &State) -> Result<Text, Refusal>
+    ensures { written_of result ≡ run_text (answer_of end) state.now }
 {
     if let End::Refused(why) = end {
-        return refusal_text(why);
+        return Err(why);
     }
     let summary = Summary {
         end: end.number(),
@@ -25,5 +27,5 @@ pub fn run_text(end: End, state: &State) -> Text
         len: state.gc.len,
         strings: state.strings.len,
     };
-    report_text(&summary, &state.regs)
+    Ok(report_text(&summary, &state.regs))
 }

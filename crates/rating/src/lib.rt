@@ -5,17 +5,18 @@ ghost use Rattle.std.specs.Prelude.{◌≡◌, true, ◌≤◌, ◌<◌, ◌^◌
 ghost use Rattle.text.specs.Text.{text_ok};
 ghost use Rattle.vm.specs.Machine.{start};
 ghost use Rattle.vm.specs.Told.{lent_of};
+ghost use Rattle.report.specs.Report.{written_of};
 ghost use Rattle.image_words.specs.Said.{image_said};
 ghost use Rattle.image_words.specs.Joined.{joined};
 ghost use Rattle.rating.specs.Rated.{lent_for, started_text};
 
-use anomaly::Steps;
+use anomaly::{Refusal, Steps};
 use outcome::run_text;
-use report::{Text, refusal_text};
+use report::Text;
 use text::Head;
 use vm::start;
 
-// Starts an image, interns its names, runs it and answers the report. `words` are its sections joined, the buffers as the header asks for.
+// Starts an image, interns its names, runs it and answers the report, or what refuses it. `words` are its sections joined, the buffers as the header asks for.
 pub fn rate(
     input: &[u8],
     head: Head,
@@ -25,25 +26,20 @@ pub fn rate(
     slots: &mut [u64],
     spare: &mut [u64],
     name: &mut [u8],
-) -> Text
+) -> Result<Text, Refusal>
     requires image { text_ok input.now ≡ true }
     requires budget { head.budget < 2 ^ 32 }
     requires words { words.old ≡ joined (image_said input.now) }
     requires lent { lent_of frames.old heap.old slots.old spare.old ≡ lent_for head }
     requires name_room { 32768 ≤ length name.old }
-    ensures { result.bytes ≡ started_text input.now head (start (image_said input.now) head.base (lent_for head)) }
+    ensures { written_of result ≡ started_text input.now head (start (image_said input.now) head.base (lent_for head)) }
 {
-    let mut state = match start::start(head.base, words, frames, heap, slots, spare) {
-        Ok(state) => state,
-        Err(why) => return refusal_text(why),
-    };
+    let mut state = start::start(head.base, words, frames, heap, slots, spare)?;
+    // an image's words begin with the ends of its parts: the globals lie between the first two
     let first = words[0] as usize;
     let end = words[1] as usize;
     let globals = &mut words[first..end];
-    let named = image_names::intern_names(input, &mut state, globals, heap, slots, spare, name);
-    if let Err(why) = named {
-        return refusal_text(why);
-    }
+    image_names::intern_names(input, &mut state, globals, heap, slots, spare, name)?;
     let end = run::run(&mut state, head.budget as Steps, words, frames, heap);
     run_text(end, &state)
 }

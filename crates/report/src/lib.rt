@@ -35,6 +35,7 @@ pub struct Summary {
 }
 
 // The digit of a value below 16.
+#[tactic(auto, unfolding(crate::specs::Hex::digit_of_value))]
 fn digit(v: u64) -> char
     requires { v < 16 }
     ensures value { result ≡ digit_of_value v }
@@ -56,6 +57,7 @@ fn put_hex(out: &mut Text, count: usize, v: u64)
 }
 
 // A register's line; nothing for one that is 0.
+#[tactic(auto, unfolding(crate::specs::Report::register_line))]
 fn put_register(out: &mut Text, number: usize, value: u64)
     requires { array_string_len out.old + 19 ≤ longest }
     ensures bytes { out.new.bytes ≡ out.old.bytes ++ register_line number value }
@@ -79,6 +81,7 @@ fn put_registers(out: &mut Text, regs: &[u64; REGISTERS])
 }
 
 // The end's number, pc and steps.
+#[tactic(auto, unfolding(crate::specs::Report::end_line))]
 fn put_end(out: &mut Text, s: &Summary)
     requires { array_string_len out.old + 27 ≤ longest }
     ensures bytes { out.new.bytes ≡ out.old.bytes ++ end_line s.now }
@@ -91,6 +94,7 @@ fn put_end(out: &mut Text, s: &Summary)
 }
 
 // Depth, pages, the last page's length and the strings.
+#[tactic(auto, unfolding(crate::specs::Report::state_line))]
 fn put_state(out: &mut Text, s: &Summary)
     requires { array_string_len out.old + 21 ≤ longest }
     ensures { out.new.bytes ≡ out.old.bytes ++ state_line s.now }
@@ -104,6 +108,7 @@ fn put_state(out: &mut Text, s: &Summary)
 }
 
 // The report of a run.
+#[tactic(auto, unfolding(crate::specs::Report::report_of))]
 pub fn report_text(s: &Summary, regs: &[u64; REGISTERS]) -> Text
     ensures { result.bytes ≡ report_of s.now regs.now }
 {
@@ -115,6 +120,7 @@ pub fn report_text(s: &Summary, regs: &[u64; REGISTERS]) -> Text
 }
 
 // The number of a refusal alone.
+#[tactic(auto, unfolding(crate::specs::Report::refusal_of))]
 pub fn refusal_text(why: Refusal) -> Text
     ensures { result.bytes ≡ refusal_of (number_of_refusal why) }
 {

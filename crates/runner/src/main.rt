@@ -1,6 +1,7 @@
 // The image runner: an image on standard input, its report on standard output.
 #![tactic(auto)]
 
+use arrayvec::ArrayVec;
 use std::io;
 use std::io::Read;
 
@@ -8,14 +9,9 @@ use std::io::Read;
 const ENOUGH: usize = text::MAX_LEN + 1;
 
 fn main(rt: HostRuntime) -> io::Result<()> {
-    let mut input = Vec::with_capacity(rt.alloc(), ENOUGH)?;
+    let mut input = ArrayVec::<u8, ENOUGH>::new();
     // half an image is no image: a read that fails leaves nothing to answer
-    if rt
-        .reader()
-        .take(ENOUGH as u64)
-        .read_to_end(&mut input)
-        .is_err()
-    {
+    if io::copy(&mut rt.reader().take(ENOUGH as u64), &mut input).is_err() {
         return Ok(());
     }
     rt.print(image_runner::answer(&input))

@@ -158,8 +158,7 @@ module _ (n : Sizes) (room : 1 ≤ n.frames) (k : ℕ) (m : Machine) (a : Lasts 
   }
   refused_lasts (setting reset) e f =
       let g = rw (tests_are n (setting reset) c m a.holds) at f in
-      let z : ◌≡◌ {A = ℕ} 0 1 = cc in
-      absurd (omega arith)
+      cc
   refused_lasts (setting (put_pc p)) e f = a
   refused_lasts (setting (put_reg r v)) e f = a
   refused_lasts (host s) e f = a

@@ -31,7 +31,7 @@ module _ (n : Sizes) (k : ℕ) (m : Machine) (a : Lasts n k m) where
   granted_not : (e : ℕ) → spent e ≡ false → (s : Host) (o : Option ℕ) → short n (used (set_memory (hosted s c.memory).memory c)) ≡ o
       → (granted o s m (hosted s c.memory)).answer ≡ refused e → ⊥
   unfolding granted
-  granted_not e u s none f p = let z : ◌≡◌ {A = ℕ} 0 1 = cc in absurd (omega arith)
+  granted_not e u s none f p = cc
   granted_not e u s (some x) f p = let is : x ≡ e = cc in true≢false (sym (short-spent n _ f) ∙ rw is u)
 
   -- a call whose tests have passed is refused by running out alone
@@ -40,7 +40,7 @@ module _ (n : Sizes) (k : ℕ) (m : Machine) (a : Lasts n k m) where
   act_not e u (run im b) f p =
       let ends : RunEnds b (perform (run im b) m).answer = passed_ends im b m (rw (tests_are n (run im b) c m a.holds) f) in
       rw (perform-is n (run im b) c m a.holds, f, p) at ends
-  act_not e u (setting s) f p = let q : done ≡ refused e = unfold act in p in let z : ◌≡◌ {A = ℕ} 0 1 = cc in absurd (omega arith)
+  act_not e u (setting s) f p = let q : done ≡ refused e = unfold act in p in cc
   act_not e u (host s) f p = granted_not e u s _ refl (rw (host-is n s c m a.holds) at p)
 
   by_test : (e : ℕ) → spent e ≡ false → (q : Call) → Each (λ j. j ≡ e → ⊥) (tests_on q c) → (perform q m).answer ≡ refused e → ⊥

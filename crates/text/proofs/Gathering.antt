@@ -38,12 +38,6 @@ module _ {s : List ℕ} {section : Section} {before : List ℕ} {left : List (Li
     unfolding size
     size_step = rw step
 
-    pub targets_fit : targets + length l + 1 ≤ length s
-    targets_fit = omega (arith, size_step, g.few-targets)
-
-    pub values_fit : values + length l + 1 ≤ length s
-    values_fit = omega (arith, size_step, g.few_values)
-
     -- the entries of the tables with the line's
     module _ {t v : ℕ} (has-targets : t ≡ targets_with targets (kind_of l) (payload_of l)) (has-values : v ≡ values_with values (kind_of l) (payload_of l))
         {xs : List ℕ} (line_adds : xs ≡ adds section t v (kind_of l) (payload_of l)) where

@@ -30,7 +30,7 @@ begun (line l more) = true
 
 closed-before : (c : ℕ) (t : Lines) → begun t ≡ true → closed (before c t) ≡ closed t
 unfolding begun closed before
-closed-before c none h = let z : ◌≡◌ {A = ℕ} 0 1 = cc in absurd (omega arith)
+closed-before c none h = cc
 closed-before c cut h = refl
 closed-before c (line l more) h = refl
 
@@ -147,14 +147,13 @@ first_is s l more step = by (ltb (up_to s) (length s)) refl
         cc
     by false t =
         let none_there : lines_in s ≡ [] = no_line s (ltb-false _ _ t) in
-        let z : ◌≡◌ {A = ℕ} 0 1 = cc in
-        absurd (omega arith)
+        cc
 
 -- an image: its lines and the header in the first of them
 pub image_read : (s : List ℕ) → length s ≤ 65536 → ends_with eqb s (10 ∷ []) ≡ true → (l : List ℕ) (more : List (List ℕ)) → lines_in s ≡ l ∷ more
     → is_header l ≡ true → list_all is_other more ≡ true → Ok (head_in (payload_of l)) ≡ read_of s
 unfolding read_of text_ok head_of headed
-image_read [] short ends l more step header rest = let z : ◌≡◌ {A = ℕ} 0 1 = cc in absurd (omega arith)
+image_read [] short ends l more step header rest = cc
 image_read (c ∷ s) short ends l more step header rest =
     let closes : closed (lines_of (c ∷ s)) ≡ true = closed-lines c s ∙ ends in
     let lines : lines_ok (lines_of (c ∷ s)) ≡ true = lines_by (lines_of (c ∷ s)) ∙ rw (closes, step, header, rest) in

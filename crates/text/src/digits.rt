@@ -3,6 +3,7 @@ ghost use Rattle.std.specs.Prelude.{◌≡◌, ◌<◌, ◌≤◌, drop, SomeIff
 ghost use Rattle.text.specs.Digits.{value_of_digit, all_digits, field};
 
 // The value of a digit. `char::to_digit` would take upper case too.
+#[tactic(auto, using(std::proofs::lemmas::Bool::Decides::nat_tests), unfolding(crate::specs::Digits::value_of_digit))]
 fn digit(c: u8) -> Option<u64>
     ensures { SomeIff result (value_of_digit c < 16) (value_of_digit c) }
 {
@@ -28,6 +29,7 @@ pub fn all_digits(s: &[u8]) -> bool
 }
 
 // The number of `width` digits that starts at digit `from`, or of as many as there are.
+#[tactic(auto, unfolding(crate::specs::Digits::read_on))]
 pub fn number(p: &[u8], from: usize, width: usize) -> u64
     requires { width ≤ 16 }
     ensures { result ≡ field from width p.now }

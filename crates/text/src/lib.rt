@@ -31,6 +31,7 @@ pub struct Head {
 
 impl Head {
     // The numbers in a header's payload.
+    #[tactic(auto, unfolding(crate::specs::Text::head_in))]
     fn of(p: &[u8]) -> Head
         ensures { result ≡ head_in p.now }
     {
@@ -52,9 +53,7 @@ pub fn read(s: &[u8]) -> Result<Head, Refusal>
         return Err(Refusal::Text);
     }
     let mut lines = Lines(s);
-    let Some(first) = lines.next() else {
-        return Err(Refusal::Text);
-    };
+    let first = lines.next().ok_or(Refusal::Text)?;
     if is_header(first) && lines.all(is_other) {
         Ok(Head::of(payload_of(first)))
     } else {

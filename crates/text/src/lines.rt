@@ -43,6 +43,7 @@ impl TryFrom<u64> for Kind {
 
 impl Kind {
     // Whether a line of this kind may have `n` digits behind it.
+    #[tactic(auto, using(std::proofs::lemmas::Bool::Decides::nat_tests), unfolding(crate::specs::Lines::count_ok))]
     fn takes(self, n: usize) -> bool
         ensures { result ≡ count_ok (number_of_kind self) n }
     {

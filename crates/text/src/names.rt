@@ -20,7 +20,8 @@ pub struct Named<'a> {
 impl Named<'_> {
     ghost use Rattle.text.specs.Names.{bytes_in};
 
-    // Its bytes, laid over a buffer from its start, as far as it goes; how many there are.
+    // Its bytes, laid over a buffer from its start, as far as it goes; how many there are. The
+    // buffer is lent, and no list is answered: the runner's rating allocates nothing.
     pub fn put_bytes(&self, out: &mut [u8]) -> usize
         ensures { (result ≡ length (bytes_in self.now.digits.now))
             × (out.new ≡ over (bytes_in self.now.digits.now) out.old) }
@@ -75,6 +76,7 @@ impl<'a> Iterator for Names<'a> {
     ghost remaining = { item_count names_left };
 
     fn next(&mut self) -> Option<Named<'a>> {
+        // in a `for` over `self.lines.by_ref()` the loop's invariant has no `self` to speak of
         while let Some(line) = self.lines.next() {
             let global = self.globals;
             self.globals += globals_on(line);

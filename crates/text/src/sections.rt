@@ -39,6 +39,7 @@ impl<'a> Numbers<'a> {
     ghost use Rattle.text.specs.Left.{numbers_left};
     ghost use Rattle.text.specs.Sections.{of_kind, targets_in, values_in};
 
+    #[tactic(auto, unfolding(crate::specs::Digits::numbers))]
     fn none() -> Numbers<'a>
         ensures { numbers_left result ≡ [] }
     {
@@ -49,6 +50,7 @@ impl<'a> Numbers<'a> {
         }
     }
 
+    #[tactic(auto, unfolding(crate::specs::Digits::numbers))]
     fn one(number: u64) -> Numbers<'a>
         ensures { numbers_left result ≡ number ∷ [] }
     {
@@ -94,6 +96,7 @@ impl<'a> Numbers<'a> {
     }
 
     // Lays them over a buffer from a place on, as far as it goes; the place behind them.
+    #[tactic(auto, using(crate::proofs::Laying::laying_next, crate::proofs::Laying::laying_end))]
     fn put(self, buf: &mut [u64], at: usize) -> usize
         requires { at + length (numbers_left self) < 2 ^ 64 }
         ensures { Written buf.old at (numbers_left self.entry) buf.new result }
@@ -129,7 +132,7 @@ impl Iterator for Numbers<'_> {
 }
 
 // How many entries the tables of each kind have up to a line.
-#[derive(Clone, Copy)]
+#[derive(Clone, Copy, Default)]
 struct Ends {
     targets: usize,
     values: usize,
@@ -193,15 +196,13 @@ impl Section {
 }
 
 // One section of a text, laid over a buffer from its start, as far as it goes; how many numbers it
-// has.
+// has. The words are lent, and no list is answered: the runner's rating allocates nothing, and they
+// go on to the machine.
 pub fn gather(s: &[u8], section: Section, buf: &mut [u64]) -> usize
     ensures { (result ≡ length (section_in section s.now))
         × (buf.new ≡ over (section_in section s.now) buf.old) }
 {
-    let mut ends = Ends {
-        targets: 0,
-        values: 0,
-    };
+    let mut ends = Ends::default();
     let mut n = 0;
     for line in Lines(s) {
         ends = ends.with(line);

@@ -2,11 +2,8 @@
 use Rattle.std.proofs.Common.{arith}
 use Rattle.text.specs.Sections.{section_in}
 use Rattle.image_words.specs.Said.{image_said}
-use Rattle.image_words.proofs.Joins.{joining_start, joining_next, joined-all, joined_long, section_within, items_step, items_end}
+use Rattle.image_words.proofs.Joins.{joining_next, joined-all, joined_long, section_within, items_step, items_end}
 use Rattle.image_words.proofs.join.Goals as goal
-
-pub loop-i-init : goal.loop-i-init
-loop-i-init c = joining_start (image_said c.args.input.now) _
 
 pub put_section-end-requires : goal.put_section-end-requires
 put_section-end-requires c =

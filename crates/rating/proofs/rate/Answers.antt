@@ -1,15 +1,16 @@
 -- `rating::rate` meets its contract. Assumes nothing.
 use mathlib.Core.Path.{refl, ◌∙◌}
 use native.Mathlib.Omega.{arith}
+use Rattle.std.proofs.lemmas.Result.{err_from_is_err_and}
 use Rattle.vm.specs.Machine.{lend_frames, lend_slots, lend_spare, unlent}
 use Rattle.image_words.proofs.Joins.{words_ordered, globals_of, image_with_lem}
 use Rattle.rating.proofs.Answers.{begun_as, started-refused, names-refused, names-ran, text_short}
 use Rattle.rating.proofs.rate.Goals as goal
 
-pub returns-in-Err : goal.returns-in-Err
-returns-in-Err c =
-    c.refusal_text.ensures
-    ∙ started-refused _ _ _ _ _ _ _ (begun_as _ _ _ _ _ _ c.requires.words c.requires.lent c.in-Err.ensures)
+pub returns-in_err-state : goal.returns-in_err-state
+returns-in_err-state c =
+    let why = err_from_is_err_and c.from_residual.result c.from_residual.ensures.1 in
+    rw (why.1, why.2) (started-refused _ _ _ _ _ _ _ (begun_as _ _ _ _ _ _ c.requires.words c.requires.lent c.in_err-state.ensures))
 
 pub bounds-words-0 : goal.bounds-words-0
 bounds-words-0 c = omega (arith, words_ordered _ c.requires.words)
@@ -29,21 +30,19 @@ slice_bounds-globals-start c = omega (arith, words_ordered _ c.requires.words)
 pub slice_bounds-globals-end : goal.slice_bounds-globals-end
 slice_bounds-globals-end c = omega (arith, words_ordered _ c.requires.words)
 
-pub intern_names-named-requires : goal.intern_names-named-requires
-intern_names-named-requires c = (text_short _ c.requires.image, rw (globals_of _ c.requires.words) (omega arith), c.requires.name_room)
+pub intern_names-requires : goal.intern_names-requires
+intern_names-requires c = (text_short _ c.requires.image, rw (globals_of _ c.requires.words) (omega arith), c.requires.name_room)
 
-pub overflow_cast-head : goal.overflow_cast-head
-overflow_cast-head c = omega (arith, c.requires.budget)
-
-pub returns-in-Err-named : goal.returns-in-Err-named
-returns-in-Err-named c =
-    c.refusal_text-in-Err-named.ensures
-    ∙ names-refused _ _ _ _ _ _ (begun_as _ _ _ _ _ _ c.requires.words c.requires.lent c.in-Ok.ensures) _ (globals_of _ c.requires.words) _ _ _
-    (c.in-Err-named.ensures (lend_frames _ unlent)) _ refl
+pub returns-in_err-intern_names : goal.returns-in_err-intern_names
+returns-in_err-intern_names c =
+    let why = err_from_is_err_and c.from_residual-in_err-intern_names.result c.from_residual-in_err-intern_names.ensures.1 in
+    rw (why.1, why.2)
+    (names-refused _ _ _ _ _ _ (begun_as _ _ _ _ _ _ c.requires.words c.requires.lent c.in_ok-state.ensures) _ (globals_of _ c.requires.words) _ _ _
+    (c.in_err-intern_names.ensures (lend_frames _ unlent)) _ refl)
 
 pub returns : goal.returns
 returns c =
     c.run_text.ensures
-    ∙ names-ran _ _ _ _ _ _ (begun_as _ _ _ _ _ _ c.requires.words c.requires.lent c.in-Ok.ensures) _ (globals_of _ c.requires.words) _ _ _
-    (c.in_default.ensures (lend_frames _ unlent)) refl
-    _ (image_with_lem _ c.requires.words _ c.intern_names-named.auto.globals) _ refl _ (c.run-end.ensures (lend_slots _ (lend_spare _ unlent)))
+    ∙ names-ran _ _ _ _ _ _ (begun_as _ _ _ _ _ _ c.requires.words c.requires.lent c.in_ok-state.ensures) _ (globals_of _ c.requires.words) _ _ _
+    (c.in_ok-intern_names.ensures (lend_frames _ unlent)) refl
+    _ (image_with_lem _ c.requires.words _ c.intern_names.auto.globals) _ refl _ (c.run-end.ensures (lend_slots _ (lend_spare _ unlent)))

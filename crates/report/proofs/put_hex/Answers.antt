@@ -1,11 +1,7 @@
 -- `report::put_hex` meets its contract. Assumes nothing.
-use Rattle.std.proofs.Common.{ap, length, length-append, arith, lit<}
-use Rattle.std.proofs.lemmas.Str.{encode_ascii}
+use Rattle.std.proofs.Common.{ap, length, length-append, arith}
 use Rattle.report.proofs.Texts.{hex_more, hex_all}
 use Rattle.report.proofs.put_hex.Goals as goal
-
-pub push-requires : goal.push-requires
-push-requires c = rw (encode_ascii _ c.digit.ensures.ascii) (lit< tt, omega arith)
 
 pub loop-i-preserved : goal.loop-i-preserved
 loop-i-preserved c =

@@ -1,16 +1,10 @@
 -- `text::sections::gather` meets its contract. Assumes nothing.
 use Rattle.std.proofs.Common.{arith}
-use Rattle.text.proofs.Gathering.{gather_start, gather_end, targets_fit, values_fit, numbers_fit, gather_next}
+use Rattle.text.proofs.Gathering.{gather_start, gather_end, numbers_fit, gather_next}
 use Rattle.text.proofs.sections.gather.Goals as goal
 
 pub loop-line-init : goal.loop-line-init
-loop-line-init c = (tt, tt, rw c.into_iter-line-iterator.ensures.into_iter_gives (gather_start c.args.s.now c.args.section _))
-
-pub with-ends-requires-clause-targets : goal.with-ends-requires-clause-targets
-with-ends-requires-clause-targets c = omega (arith, targets_fit c.loop-line.invariant.2 c.in-Some.ensures.steps)
-
-pub with-ends-requires-clause-values : goal.with-ends-requires-clause-values
-with-ends-requires-clause-values c = omega (arith, values_fit c.loop-line.invariant.2 c.in-Some.ensures.steps)
+loop-line-init c = (tt, tt, rw (c.into_iter-line-iterator.ensures.into_iter_gives, c.default-ends.ensures.0, c.default-ends.ensures.1) (gather_start c.args.s.now c.args.section _))
 
 pub put-n-requires : goal.put-n-requires
 put-n-requires c =

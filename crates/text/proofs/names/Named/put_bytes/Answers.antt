@@ -2,14 +2,9 @@
 use Rattle.std.proofs.Common.{◌≡◌, length, arith, rules, sym, ◌∙◌}
 use Rattle.memory.specs.Lists.{write}
 use Rattle.text.proofs.Entries.{numbers_more, numbers-none, length-numbers}
-use Rattle.text.proofs.Laying.{laying_start, laying_next, laying_end}
+use Rattle.text.proofs.Laying.{laying_next, laying_end}
 use Rattle.text.proofs.Numbers.{field_small}
 use Rattle.text.proofs.names.Named.put_bytes.Goals as goal
-
-pub loop-i-init : goal.loop-i-init
-loop-i-init c =
-    let gives = c.into_iter-i-iterator.ensures.into_iter_gives in
-    (search rules, search rules, search rules, rw (gives, c.enumerate-i-items.ensures.source, c.enumerate-i-items.ensures.count, c.chunks_exact.ensures.rest) (laying_start _ _ 0))
 
 pub overflow_cast-number : goal.overflow_cast-number
 overflow_cast-number c = omega (arith, c.number.ensures, field_small 0 2 c.in-Some.pair.now)
