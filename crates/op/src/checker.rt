@@ -8,8 +8,7 @@ ghost use Rattle.op.specs.Reach.{check_of, inside_of};
 
 use crate::word::{
     ALLOC, BARE, CONDITION, FUNCTION, JUMP, JUMP_IF, JUMP_IMMEDIATE, JUMP_TWO, LOOKUP,
-    ONE_AND_NUMBER, SWITCH, THREE, TWO, TWO_AND_NUMBER, byte_three, fits, is_alignment, target,
-    upper,
+    ONE_AND_NUMBER, SWITCH, THREE, TWO, TWO_AND_NUMBER, bytes, fits, is_alignment,
 };
 use crate::{Counts, OPCODES};
 use anomaly::Refusal;
@@ -115,17 +114,17 @@ fn rest(w: u64, n: Counts) -> Result<(), Refusal>
     let opcode = w % 256;
     match opcode {
         // LoadG
-        28 => inside(upper(w), n.globals, Refusal::Index),
+        28 => inside(bytes::<4, 4>(w), n.globals, Refusal::Index),
         // Jmp to JmpSNe
-        29..=35 => inside(target(w), n.code, Refusal::Target),
+        29..=35 => inside(bytes::<2, 2>(w), n.code, Refusal::Target),
         // Switch
-        36 => inside(upper(w), n.switches, Refusal::Index),
+        36 => inside(bytes::<4, 4>(w), n.switches, Refusal::Index),
         // Lookup
-        37 => inside(upper(w), n.lookups, Refusal::Index),
+        37 => inside(bytes::<4, 4>(w), n.lookups, Refusal::Index),
         // Tail, Call
-        38..=39 => inside(upper(w), n.code, Refusal::Target),
+        38..=39 => inside(bytes::<4, 4>(w), n.code, Refusal::Target),
         // Alloc
-        53 => aligned(byte_three(w)),
+        53 => aligned(bytes::<3, 1>(w)),
         _ => Ok(()),
     }
 }

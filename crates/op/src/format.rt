@@ -7,8 +7,7 @@ ghost use Rattle.op.specs.Decode.{checked_of};
 
 use crate::word::{
     BARE, CONDITION, FUNCTION, JUMP, JUMP_IF, JUMP_IMMEDIATE, JUMP_TWO, LOOKUP, ONE_AND_NUMBER,
-    SWITCH, THREE, TWO, TWO_AND_NUMBER, byte_one, byte_three, byte_two, fits, fits_alloc, target,
-    upper, upper_signed,
+    SWITCH, THREE, TWO, TWO_AND_NUMBER, bytes, fits, fits_alloc, upper_signed,
 };
 use crate::{Keys, Reg};
 use anomaly::Refusal;
@@ -37,9 +36,9 @@ pub fn three(w: u64) -> Result<(Reg, Reg, Reg), Refusal>
         return Err(Refusal::Operand);
     }
     Ok((
-        Reg::new(byte_one(w)),
-        Reg::new(byte_two(w)),
-        Reg::new(byte_three(w)),
+        Reg::new(bytes::<1, 1>(w)),
+        Reg::new(bytes::<2, 1>(w)),
+        Reg::new(bytes::<3, 1>(w)),
     ))
 }
 
@@ -52,8 +51,8 @@ pub fn two_and_signed(w: u64) -> Result<(Reg, Reg, u64), Refusal>
         return Err(Refusal::Operand);
     }
     Ok((
-        Reg::new(byte_one(w)),
-        Reg::new(byte_two(w)),
+        Reg::new(bytes::<1, 1>(w)),
+        Reg::new(bytes::<2, 1>(w)),
         upper_signed(w),
     ))
 }
@@ -67,9 +66,9 @@ pub fn two_and_number(w: u64) -> Result<(Reg, Reg, u64), Refusal>
         return Err(Refusal::Operand);
     }
     Ok((
-        Reg::new(byte_one(w)),
-        Reg::new(byte_two(w)),
-        upper(w) as u64,
+        Reg::new(bytes::<1, 1>(w)),
+        Reg::new(bytes::<2, 1>(w)),
+        bytes::<4, 4>(w) as u64,
     ))
 }
 
@@ -80,7 +79,7 @@ pub fn two(w: u64) -> Result<(Reg, Reg), Refusal>
     if !fits(w, TWO) {
         return Err(Refusal::Operand);
     }
-    Ok((Reg::new(byte_one(w)), Reg::new(byte_two(w))))
+    Ok((Reg::new(bytes::<1, 1>(w)), Reg::new(bytes::<2, 1>(w))))
 }
 
 #[inline(always)]
@@ -90,7 +89,7 @@ pub fn one_and_signed(w: u64) -> Result<(Reg, u64), Refusal>
     if !fits(w, ONE_AND_NUMBER) {
         return Err(Refusal::Operand);
     }
-    Ok((Reg::new(byte_one(w)), upper_signed(w)))
+    Ok((Reg::new(bytes::<1, 1>(w)), upper_signed(w)))
 }
 
 #[inline(always)]
@@ -100,7 +99,7 @@ pub fn one_and_number(w: u64) -> Result<(Reg, usize), Refusal>
     if !fits(w, ONE_AND_NUMBER) {
         return Err(Refusal::Operand);
     }
-    Ok((Reg::new(byte_one(w)), upper(w)))
+    Ok((Reg::new(bytes::<1, 1>(w)), bytes::<4, 4>(w)))
 }
 
 #[inline(always)]
@@ -110,7 +109,7 @@ pub fn jump(w: u64) -> Result<usize, Refusal>
     if !fits(w, JUMP) {
         return Err(Refusal::Operand);
     }
-    Ok(target(w))
+    Ok(bytes::<2, 2>(w))
 }
 
 #[inline(always)]
@@ -120,7 +119,7 @@ pub fn jump_if(w: u64) -> Result<(Reg, usize), Refusal>
     if !fits(w, JUMP_IF) {
         return Err(Refusal::Operand);
     }
-    Ok((Reg::new(byte_one(w)), target(w)))
+    Ok((Reg::new(bytes::<1, 1>(w)), bytes::<2, 2>(w)))
 }
 
 #[inline(always)]
@@ -131,7 +130,11 @@ pub fn jump_immediate(w: u64) -> Result<(Reg, u64, usize), Refusal>
     if !fits(w, JUMP_IMMEDIATE) {
         return Err(Refusal::Operand);
     }
-    Ok((Reg::new(byte_one(w)), upper_signed(w), target(w)))
+    Ok((
+        Reg::new(bytes::<1, 1>(w)),
+        upper_signed(w),
+        bytes::<2, 2>(w),
+    ))
 }
 
 #[inline(always)]
@@ -142,7 +145,11 @@ pub fn jump_two(w: u64) -> Result<(Reg, Reg, usize), Refusal>
     if !fits(w, JUMP_TWO) {
         return Err(Refusal::Operand);
     }
-    Ok((Reg::new(byte_one(w)), Reg::new(upper(w)), target(w)))
+    Ok((
+        Reg::new(bytes::<1, 1>(w)),
+        Reg::new(bytes::<4, 4>(w)),
+        bytes::<2, 2>(w),
+    ))
 }
 
 #[inline(always)]
@@ -153,7 +160,11 @@ pub fn switch(w: u64) -> Result<(Keys, Reg, usize), Refusal>
     if !fits(w, SWITCH) {
         return Err(Refusal::Operand);
     }
-    Ok((keys(byte_one(w)), Reg::new(byte_two(w)), upper(w)))
+    Ok((
+        keys(bytes::<1, 1>(w)),
+        Reg::new(bytes::<2, 1>(w)),
+        bytes::<4, 4>(w),
+    ))
 }
 
 #[inline(always)]
@@ -166,10 +177,10 @@ pub fn lookup(w: u64) -> Result<(Keys, Reg, Reg, usize), Refusal>
         return Err(Refusal::Operand);
     }
     Ok((
-        keys(byte_three(w)),
-        Reg::new(byte_one(w)),
-        Reg::new(byte_two(w)),
-        upper(w),
+        keys(bytes::<3, 1>(w)),
+        Reg::new(bytes::<1, 1>(w)),
+        Reg::new(bytes::<2, 1>(w)),
+        bytes::<4, 4>(w),
     ))
 }
 
@@ -180,7 +191,7 @@ pub fn function(w: u64) -> Result<usize, Refusal>
     if !fits(w, FUNCTION) {
         return Err(Refusal::Operand);
     }
-    Ok(upper(w))
+    Ok(bytes::<4, 4>(w))
 }
 
 #[inline(always)]
@@ -193,10 +204,10 @@ pub fn alloc(w: u64) -> Result<(Reg, AllocType, u64, u64), Refusal>
         return Err(Refusal::Operand);
     }
     Ok((
-        Reg::new(byte_one(w)),
-        kind(byte_two(w)),
-        upper(w) as u64,
-        byte_three(w) as u64,
+        Reg::new(bytes::<1, 1>(w)),
+        kind(bytes::<2, 1>(w)),
+        bytes::<4, 4>(w) as u64,
+        bytes::<3, 1>(w) as u64,
     ))
 }
 
@@ -207,7 +218,7 @@ pub fn condition(w: u64) -> Result<Reg, Refusal>
     if !fits(w, CONDITION) {
         return Err(Refusal::Operand);
     }
-    Ok(Reg::new(byte_one(w)))
+    Ok(Reg::new(bytes::<1, 1>(w)))
 }
 
 #[inline(always)]

@@ -1,5 +1,5 @@
 // The parts of a word, and what must be zero in it.
-ghost use Rattle.std.specs.Prelude.{◌≡◌, ◌==◌, bit_and};
+ghost use Rattle.std.specs.Prelude.{◌≡◌, ◌==◌, ◌<◌, ◌/◌, ◌%◌, ◌^◌, bit_and};
 ghost use Rattle.op.specs.Layout.{parts_of, passes, is_alignment};
 ghost use Rattle.op.specs.Layout.{register, allocKind, alignment, anyNumber};
 
@@ -40,36 +40,12 @@ pub fn fits(w: u64, mask: u64) -> bool
     w & mask == 0
 }
 
-pub fn byte_one(w: u64) -> usize
-    ensures { result ≡ (parts_of w).one }
+// The number that stands in COUNT bytes from byte FROM on.
+pub fn bytes<const FROM: u32, const COUNT: u32>(w: u64) -> usize
+    requires { (FROM < 8) × (COUNT < 8) }
+    ensures { result ≡ w / 256 ^ FROM % 256 ^ COUNT }
 {
-    (w / 256 % 256) as usize
-}
-
-pub fn byte_two(w: u64) -> usize
-    ensures { result ≡ (parts_of w).two }
-{
-    (w / 0x1_0000 % 256) as usize
-}
-
-pub fn byte_three(w: u64) -> usize
-    ensures { result ≡ (parts_of w).three }
-{
-    (w / 0x100_0000 % 256) as usize
-}
-
-// Bytes 2 and 3.
-pub fn target(w: u64) -> usize
-    ensures { result ≡ (parts_of w).target }
-{
-    (w / 0x1_0000 % 0x1_0000) as usize
-}
-
-// Bytes 4 to 7.
-pub fn upper(w: u64) -> usize
-    ensures { result ≡ (parts_of w).number }
-{
-    (w / 0x1_0000_0000 % 0x1_0000_0000) as usize
+    ((w >> (8 * FROM)) % (1 << (8 * COUNT))) as usize
 }
 
 // As the 64-bit pattern of a signed number.
@@ -92,5 +68,5 @@ pub fn is_alignment(n: usize) -> bool
 pub fn fits_alloc(w: u64) -> bool
     ensures { result ≡ passes register allocKind alignment anyNumber (parts_of w) }
 {
-    fits(w, ALLOC) & is_alignment(byte_three(w))
+    fits(w, ALLOC) & is_alignment(bytes::<3, 1>(w))
 }

@@ -1,61 +1,84 @@
 -- Passing over the slots for the test of 9: how many are filled, and where their headers lie. Assumes nothing.
-use mathlib.Core.Path.{◌≡◌, refl, sym, ap, ◌∙◌}
-use Prim.Native.Nat.{ℕ, ◌+◌, ◌*◌, ◌^◌, ◌≤◌}
-use mathlib.Core.Bool.{Bool, true, false, not, cond, ◌&&◌, ◌||◌}
+use mathlib.Core.Path.{◌≡◌, refl, sym, ◌∙◌}
+use Prim.Native.Nat.{ℕ, ◌+◌, ◌*◌, ◌^◌, ◌≤◌, ◌<◌}
+use mathlib.Core.Bool.{Bool, true, false, cond, not, ◌&&◌, ◌||◌}
 use mathlib.Core.List.{List, [], ◌∷◌}
 use native.Mathlib.Omega.{arith}
-use lib.ListN.{length}
+use native.Mathlib.Numerals.{add-one}
+use lib.ListN.{length, get_or, drop, drop_of_length-le}
+use lib.Seq.{drop-cons}
 use lib.Dec.{leb, eqb, lit≤}
+use mir.Val.{bool_byte}
 use borrow.Author.Tests.{eq-eqb, ne_eqb, eqb-true, eqb-false, leb-true}
-use Rattle.std.proofs.Common.{count_by}
-use Rattle.std.specs.List.{list_all, list_any}
-use Rattle.std.proofs.lemmas.List.Recursion.{is_count_by}
+use Rattle.std.specs.List.{list_any}
 use Rattle.memory.proofs.Tests.{both}
 use Rattle.string.specs.Payload.{reaches}
 use Rattle.str_table.specs.Sound.{slot_count, active_ok, filled_in, headers_in, count_ok, slots_ok}
 
--- what counting and testing all of the slots come to
-filled_in-count_by : (slots : List ℕ) → filled_in slots ≡ count_by (λ v. not (eqb v 0)) slots
-unfolding filled_in
-filled_in-count_by = is_count_by filled_in (λ v. not (eqb v 0)) refl step
-  where
-    step : (v : ℕ) (slots : List ℕ) → filled_in (v ∷ slots) ≡ cond (not (eqb v 0)) (1 + filled_in slots) (filled_in slots)
-    step v slots = go (eqb v 0)
-      where
-        go : (b : Bool) → cond b 0 1 + filled_in slots ≡ cond (not b) (1 + filled_in slots) (filled_in slots)
-        go true = omega arith
-        go false = refl
+-- of the first i slots so many are filled, and `heads` says whether each of those has its header in pushed pages
+pub record Counting (base n : ℕ) (slots : List ℕ) (filled : ℕ) (heads : Bool) (i : ℕ) : Type 0 where
+  pub few : filled ≤ i
+  pub counts : filled + filled_in (drop i slots) ≡ filled_in slots
+  pub in_pages : (heads && headers_in base n (drop i slots)) ≡ headers_in base n slots
 
-list_all-headers_in : (base n : ℕ) (slots : List ℕ) → list_all (λ v. eqb v 0 || reaches base n v 8) slots ≡ headers_in base n slots
-unfolding headers_in
-list_all-headers_in base n [] = refl
-list_all-headers_in base n (v ∷ slots) = ap (λ (t : Bool). (eqb v 0 || reaches base n v 8) && t) (list_all-headers_in base n slots)
+-- as the definition counts a slot
+one_if : (b : Bool) → bool_byte (not b) ≡ cond b 0 1
+one_if true = refl
+one_if false = refl
 
-module _ (base n len : ℕ) (slots : List ℕ) where
-  abbrev Heads : Bool → Type 0
-  Heads r = r ≡ list_all (λ v. eqb v 0 || reaches base n v 8) slots
+-- at most one slot more
+pub one_most : (b : Bool) → bool_byte b ≤ 1
+one_most true = omega arith
+one_most false = omega arith
 
-  abbrev Filled : ℕ → Type 0
-  Filled f = f ≡ count_by (λ v. not (eqb v 0)) slots
+and_true : (b : Bool) → (b && true) ≡ b
+and_true true = refl
+and_true false = refl
 
-  pub bad_headers : (r : Bool) → Heads r → r ≡ false → false ≡ slots_ok base n len slots
-  unfolding slots_ok
-  bad_headers r h e = rw (sym (list_all-headers_in base n slots) ∙ sym h ∙ e) refl
+and_assoc : (a b c : Bool) → ((a && b) && c) ≡ (a && (b && c))
+and_assoc true b c = refl
+and_assoc false b c = refl
 
-  module _ (r : Bool) (h : Heads r) (t : r ≡ true) (f : ℕ) (c : Filled f) where
-    all_heads : headers_in base n slots ≡ true
-    all_heads = sym (list_all-headers_in base n slots) ∙ sym h ∙ t
+module _ (base n : ℕ) (slots : List ℕ) where
+  pub counting_start : Counting base n slots 0 true 0
+  counting_start = record { few = omega arith; counts = omega arith; in_pages = refl }
 
-    all_filled : filled_in slots ≡ f
-    all_filled = filled_in-count_by slots ∙ sym c
+  module _ (filled : ℕ) (heads : Bool) (i : ℕ) (g : Counting base n slots filled heads i) where
+    pub counting_next : (m : ℕ) (h : Bool) → i < length slots → m ≡ bool_byte (not (eqb (get_or slots i 0) 0))
+        → h ≡ (heads && (eqb (get_or slots i 0) 0 || reaches base n (get_or slots i 0) 8)) → Counting base n slots (filled + m) h (i + 1)
+    unfolding filled_in headers_in
+    counting_next m h l e p =
+        let few = g.few in
+        let counts = rw (drop-cons slots i 0 l, sym (one_if (eqb (get_or slots i 0) 0)), sym e) at g.counts in
+        let in_pages = rw (drop-cons slots i 0 l) at g.in_pages in
+        let one : m ≤ 1 = rw e (one_most (not (eqb (get_or slots i 0) 0))) in
+        record {
+          few = omega arith;
+          counts = rw add-one (omega (arith, counts));
+          in_pages = rw (p, add-one) (and_assoc heads _ _ ∙ in_pages);
+        }
 
-    pub bad_count : (f ≡ len → ⊥) → false ≡ slots_ok base n len slots
-    unfolding slots_ok count_ok
-    bad_count e = rw (all_heads, all_filled, ne_eqb f len e) refl
+    -- at the end
+    all_heads : length slots ≤ i → headers_in base n slots ≡ heads
+    unfolding headers_in
+    all_heads h = rw (drop_of_length-le slots h, and_true heads) at (sym g.in_pages)
 
-    pub half_full : f ≡ len → leb (len * 2) (length slots) ≡ slots_ok base n len slots
-    unfolding slots_ok count_ok
-    half_full e = rw (all_heads, all_filled, eq-eqb f len e) refl
+    all_filled : length slots ≤ i → filled_in slots ≡ filled
+    unfolding filled_in
+    all_filled h = let u = rw (drop_of_length-le slots h) at g.counts in omega (arith, u)
+
+    module _ (len : ℕ) (h : length slots ≤ i) where
+      pub bad_headers : heads ≡ false → false ≡ slots_ok base n len slots
+      unfolding slots_ok
+      bad_headers e = rw (all_heads h, e) refl
+
+      pub bad_count : heads ≡ true → (filled ≡ len → ⊥) → false ≡ slots_ok base n len slots
+      unfolding slots_ok count_ok
+      bad_count t e = rw (all_heads h, t, all_filled h, ne_eqb filled len e) refl
+
+      pub half_full : heads ≡ true → filled ≡ len → leb (len * 2) (length slots) ≡ slots_ok base n len slots
+      unfolding slots_ok count_ok
+      half_full t e = rw (all_heads h, t, all_filled h, eq-eqb filled len e) refl
 
 -- ---- what a sound table is
 

@@ -9,28 +9,28 @@ use Rattle.op.proofs.checker.rest.Goals as goal
 
 pub returns-in-28 : goal.returns-in-28
 unfolding rows rest_of
-returns-in-28 c = rw (c.in-28.is, c.inside.ensures, c.upper.ensures)
+returns-in-28 c = rw (c.in-28.is, c.inside.ensures, c.bytes.ensures)
 
 pub returns-in-36 : goal.returns-in-36
 unfolding rows rest_of
-returns-in-36 c = rw (c.in-36.is, c.inside-in-36.ensures, c.upper-in-36.ensures)
+returns-in-36 c = rw (c.in-36.is, c.inside-in-36.ensures, c.bytes-in-36.ensures)
 
 pub returns-in-37 : goal.returns-in-37
 unfolding rows rest_of
-returns-in-37 c = rw (c.in-37.is, c.inside-in-37.ensures, c.upper-in-37.ensures)
+returns-in-37 c = rw (c.in-37.is, c.inside-in-37.ensures, c.bytes-in-37.ensures)
 
 pub returns-in-53 : goal.returns-in-53
 unfolding rows rest_of
-returns-in-53 c = rw (c.in-53.is, c.aligned.ensures, c.byte_three.ensures, and-true)
+returns-in-53 c = rw (c.in-53.is, c.aligned.ensures, c.bytes-in-53.ensures, and-true)
 
 pub returns-in-29-to-35 : goal.returns-in-29-to-35
 unfolding rows rest_of
-returns-in-29-to-35 c = rw (c.inside-in-29-to-35.ensures, c.target.ensures) (jump_rest (c.args.w % 256) c.args.n (parts_of c.args.w) (omega arith) (omega arith))
+returns-in-29-to-35 c = rw (c.inside-in-29-to-35.ensures, c.bytes-in-29-to-35.ensures) (jump_rest (c.args.w % 256) c.args.n (parts_of c.args.w) (omega arith) (omega arith))
 
 pub returns-in-38-to-39 : goal.returns-in-38-to-39
 unfolding rows rest_of
 returns-in-38-to-39 c =
-    rw (c.inside-in-38-to-39.ensures, c.upper-in-38-to-39.ensures) (function_rest (c.args.w % 256) c.args.n (parts_of c.args.w) (omega arith) (omega arith))
+    rw (c.inside-in-38-to-39.ensures, c.bytes-in-38-to-39.ensures) (function_rest (c.args.w % 256) c.args.n (parts_of c.args.w) (omega arith) (omega arith))
 
 pub returns-in_default : goal.returns-in_default
 unfolding rows rest_of

@@ -9,10 +9,10 @@ pub returns-then-not-fits_alloc : goal.returns-then-not-fits_alloc
 returns-then-not-fits_alloc c = refuses _ _ (sym c.fits_alloc.ensures ∙ c.if-not-fits_alloc.true)
 
 pub new-requires : goal.new-requires
-new-requires c = rw c.byte_one.ensures (parts_in register allocKind alignment anyNumber (parts_of c.args.w) (sym c.fits_alloc.ensures ∙ c.if-not-fits_alloc.false)).one
+new-requires c = rw c.bytes.ensures (parts_in register allocKind alignment anyNumber (parts_of c.args.w) (sym c.fits_alloc.ensures ∙ c.if-not-fits_alloc.false)).one
 
 pub kind-requires : goal.kind-requires
-kind-requires c = rw c.byte_two.ensures (parts_in register allocKind alignment anyNumber (parts_of c.args.w) (sym c.fits_alloc.ensures ∙ c.if-not-fits_alloc.false)).two
+kind-requires c = rw c.bytes-2.ensures (parts_in register allocKind alignment anyNumber (parts_of c.args.w) (sym c.fits_alloc.ensures ∙ c.if-not-fits_alloc.false)).two
 
 pub returns : goal.returns
 returns c = gives _ _ _ (sym c.fits_alloc.ensures ∙ c.if-not-fits_alloc.false) cc

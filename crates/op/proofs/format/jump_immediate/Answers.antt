@@ -10,7 +10,7 @@ pub returns-then-not-fits : goal.returns-then-not-fits
 returns-then-not-fits c = refuses _ _ (sym (jump_immediate _) ∙ sym c.fits.ensures ∙ c.if-not-fits.true)
 
 pub new-requires : goal.new-requires
-new-requires c = rw c.byte_one.ensures (parts_in register anyByte anyByte anyNumber (parts_of c.args.w) (sym (jump_immediate _) ∙ sym c.fits.ensures ∙ c.if-not-fits.false)).one
+new-requires c = rw c.bytes.ensures (parts_in register anyByte anyByte anyNumber (parts_of c.args.w) (sym (jump_immediate _) ∙ sym c.fits.ensures ∙ c.if-not-fits.false)).one
 
 pub returns : goal.returns
 returns c = gives _ _ _ (sym (jump_immediate _) ∙ sym c.fits.ensures ∙ c.if-not-fits.false) cc

@@ -10,10 +10,10 @@ pub returns-then-not-fits : goal.returns-then-not-fits
 returns-then-not-fits c = refuses _ _ (sym (jump_two _) ∙ sym c.fits.ensures ∙ c.if-not-fits.true)
 
 pub new-requires : goal.new-requires
-new-requires c = rw c.byte_one.ensures (parts_in register anyByte anyByte register (parts_of c.args.w) (sym (jump_two _) ∙ sym c.fits.ensures ∙ c.if-not-fits.false)).one
+new-requires c = rw c.bytes.ensures (parts_in register anyByte anyByte register (parts_of c.args.w) (sym (jump_two _) ∙ sym c.fits.ensures ∙ c.if-not-fits.false)).one
 
 pub new-requires-2 : goal.new-requires-2
-new-requires-2 c = rw c.upper.ensures (parts_in register anyByte anyByte register (parts_of c.args.w) (sym (jump_two _) ∙ sym c.fits.ensures ∙ c.if-not-fits.false)).number
+new-requires-2 c = rw c.bytes-2.ensures (parts_in register anyByte anyByte register (parts_of c.args.w) (sym (jump_two _) ∙ sym c.fits.ensures ∙ c.if-not-fits.false)).number
 
 pub returns : goal.returns
 returns c = gives _ _ _ (sym (jump_two _) ∙ sym c.fits.ensures ∙ c.if-not-fits.false) cc

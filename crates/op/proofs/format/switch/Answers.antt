@@ -10,7 +10,7 @@ pub returns-then-not-fits : goal.returns-then-not-fits
 returns-then-not-fits c = refuses _ _ (sym (switch _) ∙ sym c.fits.ensures ∙ c.if-not-fits.true)
 
 pub new-requires : goal.new-requires
-new-requires c = rw c.byte_two.ensures (parts_in switchKind register unused anyNumber (parts_of c.args.w) (sym (switch _) ∙ sym c.fits.ensures ∙ c.if-not-fits.false)).two
+new-requires c = rw c.bytes-2.ensures (parts_in switchKind register unused anyNumber (parts_of c.args.w) (sym (switch _) ∙ sym c.fits.ensures ∙ c.if-not-fits.false)).two
 
 pub returns : goal.returns
 returns c = gives _ _ _ (sym (switch _) ∙ sym c.fits.ensures ∙ c.if-not-fits.false) cc

@@ -10,13 +10,13 @@ pub returns-then-not-fits : goal.returns-then-not-fits
 returns-then-not-fits c = refuses _ _ (sym (three-registers _) ∙ sym c.fits.ensures ∙ c.if-not-fits.true)
 
 pub new-requires : goal.new-requires
-new-requires c = rw c.byte_one.ensures (parts_in register register register unused (parts_of c.args.w) (sym (three-registers _) ∙ sym c.fits.ensures ∙ c.if-not-fits.false)).one
+new-requires c = rw c.bytes.ensures (parts_in register register register unused (parts_of c.args.w) (sym (three-registers _) ∙ sym c.fits.ensures ∙ c.if-not-fits.false)).one
 
 pub new-requires-2 : goal.new-requires-2
-new-requires-2 c = rw c.byte_two.ensures (parts_in register register register unused (parts_of c.args.w) (sym (three-registers _) ∙ sym c.fits.ensures ∙ c.if-not-fits.false)).two
+new-requires-2 c = rw c.bytes-2.ensures (parts_in register register register unused (parts_of c.args.w) (sym (three-registers _) ∙ sym c.fits.ensures ∙ c.if-not-fits.false)).two
 
 pub new-requires-3 : goal.new-requires-3
-new-requires-3 c = rw c.byte_three.ensures (parts_in register register register unused (parts_of c.args.w) (sym (three-registers _) ∙ sym c.fits.ensures ∙ c.if-not-fits.false)).three
+new-requires-3 c = rw c.bytes-3.ensures (parts_in register register register unused (parts_of c.args.w) (sym (three-registers _) ∙ sym c.fits.ensures ∙ c.if-not-fits.false)).three
 
 pub returns : goal.returns
 returns c = gives _ _ _ (sym (three-registers _) ∙ sym c.fits.ensures ∙ c.if-not-fits.false) cc

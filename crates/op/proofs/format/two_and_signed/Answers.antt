@@ -10,10 +10,10 @@ pub returns-then-not-fits : goal.returns-then-not-fits
 returns-then-not-fits c = refuses _ _ (sym (two_and_number _) ∙ sym c.fits.ensures ∙ c.if-not-fits.true)
 
 pub new-requires : goal.new-requires
-new-requires c = rw c.byte_one.ensures (parts_in register register unused anyNumber (parts_of c.args.w) (sym (two_and_number _) ∙ sym c.fits.ensures ∙ c.if-not-fits.false)).one
+new-requires c = rw c.bytes.ensures (parts_in register register unused anyNumber (parts_of c.args.w) (sym (two_and_number _) ∙ sym c.fits.ensures ∙ c.if-not-fits.false)).one
 
 pub new-requires-2 : goal.new-requires-2
-new-requires-2 c = rw c.byte_two.ensures (parts_in register register unused anyNumber (parts_of c.args.w) (sym (two_and_number _) ∙ sym c.fits.ensures ∙ c.if-not-fits.false)).two
+new-requires-2 c = rw c.bytes-2.ensures (parts_in register register unused anyNumber (parts_of c.args.w) (sym (two_and_number _) ∙ sym c.fits.ensures ∙ c.if-not-fits.false)).two
 
 pub returns : goal.returns
 returns c = gives _ _ _ (sym (two_and_number _) ∙ sym c.fits.ensures ∙ c.if-not-fits.false) cc
