@@ -9,7 +9,7 @@ use lib.Seq.{length-take-le, drop-drop}
 use lib.Dec.{leb, ltb}
 use borrow.Author.Tests.{le-leb, lt-leb, leb-true, leb-false, lt-ltb, le-ltb}
 use Rattle.memory.specs.Lists.{over}
-use Rattle.memory.proofs.Over.{over-is, over-take, over-write, over-over, take-over, tail_returned, length_over, length-write}
+use Rattle.memory.proofs.Over.{over-is, over-take, over-write, over-over, take-over, tail_returned, length-write}
 use Rattle.gc.specs.declared.Gc.{Gc}
 use Rattle.std.specs.Prelude.{Option, None, Some, is_none}
 use Rattle.gc.specs.Metadata.{header_of}
@@ -184,12 +184,6 @@ module _ (g : Gc) (flags n : ℕ) (heap : List ℕ) (s : InHeap g heap) where
         (omega (arith, grow_enough page_size n (omega arith))) in
         le-leb _ _ k
 
-    pub fresh-sound : InHeap h x
-    unfolding numbers_of pushed pages_of
-    fresh-sound =
-        let low = s.low in
-        rw (said.1, said.2) (record { low = rw length_over low; in_heap = rw length_over in_heap; in_pages = rw length-append (omega arith) })
-
     starts_empty : gap_of h.len ≡ 0
     unfolding gap_of numbers_of pushed
     starts_empty = rw said.1 refl
@@ -223,11 +217,6 @@ module _ (g : Gc) (flags n : ℕ) (heap : List ℕ) (s : InHeap g heap) where
     in_last p i =
         let t : holds n (pages_of g heap) ≡ true = (some_said _ _ g heap x r p h i e).fitting in
         ap (λ (a : Option ℕ). outcome a h x) (sym i) ∙ e ∙ rw (t, last_fits (gap_of g.len)) refl
-
-    -- a page that cannot hold it stays as it was
-    pub kept : r ≡ None → InHeap h x
-    unfolding fast_of
-    kept i = let q = none_said _ _ g heap x r h i e in rw (q.1, q.2) s
 
     pub in_new : (a : Option ℕ) (k : Gc) (y : List ℕ) → r ≡ None → outcome a k y ≡ slow_of h flags n x → outcome a k y ≡ alloc_of g flags n heap
     unfolding fast_of slow_of alloc_of allocated fitted

@@ -1,15 +1,11 @@
 -- One write behind another. Assumes nothing.
-use mathlib.Core.Path.{◌≡◌, sym, ◌∙◌}
+use mathlib.Core.Path.{◌≡◌, ◌∙◌}
 use Prim.Native.Nat.{ℕ}
-use mathlib.Core.List.{List, [], ◌++◌}
+use mathlib.Core.List.{List, ◌++◌}
 use native.Mathlib.Omega.{arith}
-use native.Mathlib.Nat.{add-zero}
 use lib.ListN.{length-append}
 use Rattle.memory.specs.Lists.{write, Written}
-use Rattle.memory.proofs.Over.{sets_write, write-append}
-
-pub written_none : (before : List ℕ) (a : ℕ) (new : List ℕ) → new ≡ [] → Written before a new before a
-written_none before a new h = rw h (record { ends = sym (add-zero a); is = sets_write [] before a })
+use Rattle.memory.proofs.Over.{write-append}
 
 pub write-behind : (before mid : List ℕ) (a b : ℕ) (xs ys : List ℕ) → Written before a xs mid b → write b ys mid ≡ write a (xs ++ ys) before
 write-behind before mid a b xs ys w = rw (w.is, w.ends) (write-append a xs ys before)

@@ -5,11 +5,11 @@ use mathlib.Core.Bool.{true}
 use mathlib.Core.List.{List, [], ◌∷◌}
 use native.Mathlib.Omega.{arith}
 use native.Mathlib.Nat.{not-suc-le-zero, le_of_suc-le-suc}
-use lib.ListN.{length, get_or, length-take, length-drop}
+use lib.ListN.{length, get_or}
 use lib.Dec.{leb, eqb}
 use borrow.Author.Tests.{leb-true, eqb-true}
 use Rattle.memory.proofs.Tests.{both}
-use Rattle.program.specs.Image.{Tables, rising, tables_fit, tables_ok, start_of, entries_of}
+use Rattle.program.specs.Image.{Tables, rising, tables_fit, tables_ok, start_of}
 
 -- ---- the ends of tables go up
 
@@ -65,7 +65,3 @@ module _ (t : Tables) (k : ℕ) (ok : tables_ok t ≡ true) (l : k < length t.fi
       let e = eqb-true (length t.ends) (length t.firsts) parts.0 in
       let there : k < length t.ends = omega arith in
       (there, start-order t.ends (length t.entries) k parts.1 there, rising_at 0 t.ends (length t.entries) k parts.1 there)
-
-  pub entries-length : length (entries_of t k) ≡ get_or t.ends k 0 - start_of t.ends k
-  unfolding entries_of
-  entries-length = let b = bounds in simp (length-take, length-drop) (omega arith)

@@ -1,7 +1,7 @@
 -- A NaN by its pattern, by the test `x != x`, and in `bits`. Assumes nothing.
 use Rattle.std.proofs.Common.{◌≡◌, ℕ, ◌%◌, ◌^◌, ◌<◌, ◌≤◌, true, false, not, T, sym, refl, ◌∙◌, subst, true≢false, le-ltb, lt-ltb}
-use lib.Ieee.{Float, nan, inf, fin, binary64, is_nan, nan_bits, of_bits, to_bits, ne, div}
-use lib.Ieee.Bits.{nan_bits_is, nan_bits_above, cond_no}
+use lib.Ieee.{Float, nan, inf, fin, binary64, is_nan, nan_bits, of_bits, ne, div}
+use lib.Ieee.Bits.{nan_bits_is, nan_bits_above}
 use lib.Ieee.Compare.{differs_from_itself, nan_differs}
 use Rattle.value.specs.Double.{double, bits}
 
@@ -44,7 +44,3 @@ no_nan (fin s m e) h = tt
 pub bits_nan : (x : Float) → ne x x ≡ true → 0x7ff8_0000_0000_0000 ≡ bits x
 unfolding bits is_nan
 bits_nan x h = rw (differs x h) refl
-
-pub bits-number : (x : Float) → ne x x ≡ false → to_bits binary64 x ≡ bits x
-unfolding bits
-bits-number x h = sym (cond_no (is_nan x) _ _ (no_nan x h))
