@@ -1,5 +1,6 @@
 // What stops a run, what refuses a call, and how a run ends. Each has its number in document 01, 'Ends and numbers':
-// the constants below, and the definitions of specs/Table.antt.
+// the constants below, and the definitions of specs/Table.antt. It is asked for by `number`, and not by `u64::from`: an end has a
+// number, a `pc` and `steps`, and `u64::from(end)` would not say which of the three.
 #![tactic(auto)]
 
 ghost use Rattle.std.specs.Prelude.{◌≡◌};

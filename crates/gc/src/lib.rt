@@ -97,7 +97,8 @@ pub struct Gc {
 }
 
 impl Gc {
-    // Whether the numbers can belong to pages in a heap of `lent` bytes: refusal 9.
+    // Whether the numbers can belong to pages in a heap of `lent` bytes: refusal 9. `&` in place of `&&`: a chain of `&&` was tried, and
+    // leaves goals behind each of its joins.
     pub fn sound(self, lent: usize) -> bool
         ensures { result ≡ sound_of self lent }
     {

@@ -30,7 +30,8 @@ fn hashes(rt: &impl Print) -> io::Result<()> {
     )
 }
 
-// The pattern of a result; 1 and 7 are the ends of a division that has none.
+// What is printed of a division: the pattern of its result, or 1 or 7, the ends of one that has none. That is no conversion of the
+// error, which is no number elsewhere.
 fn shown(d: Result<u64, DivisionError>) -> u64 {
     match d {
         Ok(p) => p,

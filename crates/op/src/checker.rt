@@ -107,7 +107,9 @@ fn inside(at: usize, count: usize, refusal: Refusal) -> Result<(), Refusal>
     if at < count { Ok(()) } else { Err(refusal) }
 }
 
-// What its mask leaves of a word: an alignment, or whether what it names is below its count.
+// What its mask leaves of a word: an alignment, or whether what it names is below its count. The opcodes are a closed set: a table of
+// functions or closures would hide from the compiler what it puts into the loop over an image's words.
+#[tactic(auto, unfolding(crate::specs::Decode::rows, crate::specs::Masks::rest_of))]
 fn rest(w: u64, n: Counts) -> Result<(), Refusal>
     ensures { result ≡ rest_of (row_of (w % 256)) n (parts_of w) }
 {

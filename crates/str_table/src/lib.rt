@@ -15,7 +15,8 @@ use value::Value;
 
 const EMPTY: u64 = Value::UNDEF.0;
 
-// What probing comes to.
+// What probing comes to. An enum of its own: the definitions of placing go by the place in `Vacant`, which no Option or Result of
+// the value that is looked for has.
 #[derive(Clone, Copy)]
 pub enum Probe {
     // The value that is looked for.

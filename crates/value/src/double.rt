@@ -1,6 +1,6 @@
 // Arithmetic on two registers as binary64 numbers: each operation is rounded once, and a NaN result is
-// written as `Value::NAN`. A comparison with a NaN is false. The four differ in their operator alone, and each is a line: a function that
-// took it as a closure would say no less.
+// written as `Value::NAN`. A comparison with a NaN is false. The four operations differ in their operator alone, and so do the two
+// comparisons here and those of `int`; each is a line, and a function that took the operator as a closure would be no shorter.
 ghost use Rattle.std.specs.Prelude.{◌≡◌};
 ghost use Rattle.std.specs.Float.Ieee as Ieee;
 ghost use Rattle.value.specs.Double.{double, on};

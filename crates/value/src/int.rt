@@ -55,6 +55,7 @@ pub fn rem(a: u64, b: u64) -> Result<u64, DivisionError>
     Ok(Value::from(x % y).0)
 }
 
+// A line each, as those of `double` are, and why is said there.
 pub fn lt(a: u64, b: u64) -> bool
     ensures { result ≡ int_lt (signed a) (signed b) }
 {

@@ -41,6 +41,7 @@ impl Value {
 
     const MAX: Value = Value(SIGN - 1);
 
+    // `as_bool`, `as_int` and `as_f64` are the Rust's names, and no `From`: each reads the bits and may read what was not written so.
     pub fn as_bool(self) -> bool
         ensures { result ≡ truth self.0 }
     {

@@ -1,27 +1,10 @@
 -- `rest` meets its contract: by the opcode, or by a run of opcodes that are answered alike. Assumes nothing.
-use mathlib.Core.Bool.{and-true}
 use Rattle.std.proofs.Common.{◌%◌, arith}
 use Rattle.op.specs.Layout.{parts_of}
 use Rattle.op.specs.Decode.{rows}
 use Rattle.op.specs.Masks.{rest_of}
 use Rattle.op.proofs.Checks.{jump_rest, function_rest, no_rest_below, no_rest_above}
 use Rattle.op.proofs.checker.rest.Goals as goal
-
-pub returns-in-28 : goal.returns-in-28
-unfolding rows rest_of
-returns-in-28 c = rw (c.in-28.is, c.inside.ensures, c.bytes.ensures)
-
-pub returns-in-36 : goal.returns-in-36
-unfolding rows rest_of
-returns-in-36 c = rw (c.in-36.is, c.inside-in-36.ensures, c.bytes-in-36.ensures)
-
-pub returns-in-37 : goal.returns-in-37
-unfolding rows rest_of
-returns-in-37 c = rw (c.in-37.is, c.inside-in-37.ensures, c.bytes-in-37.ensures)
-
-pub returns-in-53 : goal.returns-in-53
-unfolding rows rest_of
-returns-in-53 c = rw (c.in-53.is, c.aligned.ensures, c.bytes-in-53.ensures, and-true)
 
 pub returns-in-29-to-35 : goal.returns-in-29-to-35
 unfolding rows rest_of
