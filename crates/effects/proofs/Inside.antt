@@ -175,7 +175,7 @@ module _ (im : Image) (r : List ℕ) (targets : below (length im.code) im.switch
 
 only_halt : (b : Bool) (op : Op) → ◌≡◌ {A = Result Op Refusal} (cond b (Ok Halt) (Err Operand)) (Ok op) → op ≡ Halt
 only_halt true op e = cc
-only_halt false op e = let z : ◌≡◌ {A = ℕ} 0 1 = cc in absurd (omega arith)
+only_halt false op e = cc
 
 -- a word with the opcode of Halt is a Halt, where it is an instruction
 halt_word : (w : ℕ) (op : Op) → w % 256 ≡ 59 → decode_of w ≡ Ok op → op ≡ Halt

@@ -56,10 +56,10 @@ pub record Reached (g : Gc) (a i : ℕ) : Type 0 where
 
 reached_by : (b : Bool) (i j : ℕ) → cond b (std.Some j) std.None ≡ std.Some i → (b ≡ true) × (i ≡ j)
 reached_by true i j e = (refl, cc)
-reached_by false i j e = let z : ◌≡◌ {A = ℕ} 0 1 = cc in absurd (omega arith)
+reached_by false i j e = cc
 
 outside_by : (b : Bool) (j : ℕ) → cond b (std.Some j) std.None ≡ std.None → b ≡ false
-outside_by true j e = let z : ◌≡◌ {A = ℕ} 0 1 = cc in absurd (omega arith)
+outside_by true j e = cc
 outside_by false j e = refl
 
 pub one_high : (a b : ℕ) → (leb (2 ^ 48) a || leb (2 ^ 48) b) ≡ true → 2 ^ 48 ≤ a + b

@@ -18,7 +18,7 @@ failing-cons t ts h = by t.passes refl (unfold failing in h)
 
 pub failing-here : (ts us : List Test) (k : ℕ) → failing ts ≡ some k → failing (ts ++ us) ≡ some k
 unfolding failing
-failing-here [] us k e = let z : ◌≡◌ {A = ℕ} 0 1 = cc in absurd (omega arith)
+failing-here [] us k e = cc
 failing-here (t ∷ ts) us k e = by t.passes refl (failing-here ts us k) (unfold failing in e)
   where
     by : (p : Bool) → t.passes ≡ p → (failing ts ≡ some k → failing (ts ++ us) ≡ some k)

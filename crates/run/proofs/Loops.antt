@@ -133,8 +133,8 @@ module _ (s : State) (im : Image) (at : Position) (regs : List ℕ) (l : Lent) (
         left = finished-laid m d fits good.0 im b n p grows.ends;
         going = going_laid m d fits good.0 (length im.code) o grows.ends g.fitting.sound;
       })
-  on_by b n m' halted p good o grows e = let z : ◌≡◌ {A = ℕ} 0 1 = cc (ap (λ (z : Turned). z.how) e) in absurd (omega arith)
-  on_by b n m' (stop k d) p good o grows e = let z : ◌≡◌ {A = ℕ} 0 1 = cc (ap (λ (z : Turned). z.how) e) in absurd (omega arith)
+  on_by b n m' halted p good o grows e = cc (ap (λ (z : Turned). z.how) e)
+  on_by b n m' (stop k d) p good o grows e = cc (ap (λ (z : Turned). z.how) e)
 
   pub to_next : (b n : ℕ) (m' : Machine) → record { how = goes; machine = m' } ≡ turn here m → On b n m'
   to_next b n m' e =
@@ -144,9 +144,9 @@ module _ (s : State) (im : Image) (at : Position) (regs : List ℕ) (l : Lent) (
   halt_by : (b n : ℕ) (m' : Machine) (x : Step) → step (sizes l) im (view m) ≡ x → record { how = halts; machine = m' } ≡ turned m x
       → record { ending = 0; steps = n + 1; machine = m' } ≡ finished im (suc b) n m
   unfolding turned finished finishes
-  halt_by b n m' (next d) p e = let z : ◌≡◌ {A = ℕ} 0 1 = cc (ap (λ (z : Turned). z.how) e) in absurd (omega arith)
+  halt_by b n m' (next d) p e = cc (ap (λ (z : Turned). z.how) e)
   halt_by b n m' halted p e = rw (go-halted (sizes l) im b (view m) p, as_it_was, ap (λ (z : Turned). z.machine) e) refl
-  halt_by b n m' (stop k d) p e = let z : ◌≡◌ {A = ℕ} 0 1 = cc (ap (λ (z : Turned). z.how) e) in absurd (omega arith)
+  halt_by b n m' (stop k d) p e = cc (ap (λ (z : Turned). z.how) e)
 
   pub to_halt : (b n : ℕ) (m' : Machine) → record { how = halts; machine = m' } ≡ turn here m
       → record { ending = 0; steps = n + 1; machine = m' } ≡ finished im (suc b) n m
@@ -155,8 +155,8 @@ module _ (s : State) (im : Image) (at : Position) (regs : List ℕ) (l : Lent) (
   stop_by : (b n k : ℕ) (m' : Machine) (x : Step) → step (sizes l) im (view m) ≡ x → record { how = stops k; machine = m' } ≡ turned m x
       → record { ending = k; steps = n; machine = m' } ≡ finished im (suc b) n m
   unfolding turned finished finishes
-  stop_by b n k m' (next d) p e = let z : ◌≡◌ {A = ℕ} 0 1 = cc (ap (λ (z : Turned). z.how) e) in absurd (omega arith)
-  stop_by b n k m' halted p e = let z : ◌≡◌ {A = ℕ} 0 1 = cc (ap (λ (z : Turned). z.how) e) in absurd (omega arith)
+  stop_by b n k m' (next d) p e = cc (ap (λ (z : Turned). z.how) e)
+  stop_by b n k m' halted p e = cc (ap (λ (z : Turned). z.how) e)
   stop_by b n k m' (stop j d) p e =
       let number : k ≡ j = cc (ap (λ (z : Turned). z.how) e) in
       rw (go-stop (sizes l) im b (view m) d j p, ap (λ (z : Turned). z.machine) e, number, add-zero n) refl

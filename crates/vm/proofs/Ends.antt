@@ -209,12 +209,12 @@ refusal_numbered k h = rw (ne_eqb k 2 (λ e. omega arith), le-leb 9 k h.0, le-le
 ended_case : (n : Sizes) (im : Image) (b k : ℕ) (c : Core) (e : ℕ) (t : Bool) → ltb c.pc (suc k) ≡ t
     → (runs n im b (suc k) c).answer ≡ refused e → ⊥
 unfolding ran
-ended_case n im b k c e true q h = let g = rw (runs-go n im b k c q) at h in let z : ◌≡◌ {A = ℕ} 0 1 = cc in absurd (omega arith)
-ended_case n im b k c e false q h = let g = rw (runs_past n im b k c q) at h in let z : ◌≡◌ {A = ℕ} 0 1 = cc in absurd (omega arith)
+ended_case n im b k c e true q h = let g = rw (runs-go n im b k c q) at h in cc
+ended_case n im b k c e false q h = let g = rw (runs_past n im b k c q) at h in cc
 
 runs-ends : (n : Sizes) (im : Image) (b k : ℕ) (c : Core) (e : ℕ) → (runs n im b k c).answer ≡ refused e → ⊥
 unfolding runs
-runs-ends n im b zero c e h = let z : ◌≡◌ {A = ℕ} 0 1 = cc in absurd (omega arith)
+runs-ends n im b zero c e h = cc
 runs-ends n im b (suc k) c e h = ended_case n im b k c e (ltb c.pc (suc k)) refl h
 
 granted-refused : (o : Option ℕ) (k : Host) (m : Machine) (g : Given) (e : ℕ) → (granted o k m g).answer ≡ refused e → (granted o k m g).machine ≡ m

@@ -26,7 +26,7 @@ each_append P (t ∷ ts) us h k = (h.0, each_append P ts us h.1 k)
 
 pub failing_each : (P : ℕ → Type 0) (ts : List Test) (k : ℕ) → Each P ts → failing ts ≡ some k → P k
 unfolding failing
-failing_each P [] k u e = let z : ◌≡◌ {A = ℕ} 0 1 = cc in absurd (omega arith)
+failing_each P [] k u e = cc
 failing_each P (t ∷ ts) k u e = by t.passes refl (failing_each P ts k u.1) (unfold failing in e)
   where
     by : (b : Bool) → t.passes ≡ b → (failing ts ≡ some k → P k) → (elim b [ true ↦ failing ts | false ↦ some t.number ]) ≡ some k → P k
