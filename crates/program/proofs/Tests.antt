@@ -4,7 +4,6 @@ use Prim.Native.Nat.{ℕ}
 use mathlib.Core.Bool.{Bool, true, false}
 use mathlib.Core.Option.{Option, none, some}
 use mathlib.Core.List.{List, [], ◌∷◌, ◌++◌}
-use native.Mathlib.Omega.{arith}
 use Rattle.program.specs.Image.{Test, failing}
 
 pub failing-cons : (t : Test) (ts : List Test) → failing (t ∷ ts) ≡ none → (t.passes ≡ true) × (failing ts ≡ none)

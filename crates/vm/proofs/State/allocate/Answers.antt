@@ -29,9 +29,9 @@ pub returns : goal.returns
 returns c =
     λ l.
     let answered =
-        allocate-told c.args.self.now (lend_heap c.args.heap.now l) c.args.kind c.args.align c.args.size
-        (allocate-passed _ (lend_heap _ l) _ _ _ c.in_ok-heap_fits.ensures c.in_ok-kind.ensures.test c.in_ok-pages_belong.ensures)
-        (outcome c.alloc-address.result c.alloc-address.new.self.gc c.alloc-address.new.self.bytes.now)
-        (rw (c.new.ensures.0, c.new.ensures.1, c.in_ok-kind.ensures.value) at c.alloc-address.ensures.outcome)
+    allocate-told c.args.self.now (lend_heap c.args.heap.now l) c.args.kind c.args.align c.args.size
+    (allocate-passed _ (lend_heap _ l) _ _ _ c.in_ok-heap_fits.ensures c.in_ok-kind.ensures.test c.in_ok-pages_belong.ensures)
+    (outcome c.alloc-address.result c.alloc-address.new.self.gc c.alloc-address.new.self.bytes.now)
+    (rw (c.new.ensures.0, c.new.ensures.1, c.in_ok-kind.ensures.value) at c.alloc-address.ensures.outcome)
     in
     rw c.ok_or.ensures.value (search (rules, answered))

@@ -33,7 +33,7 @@ pub returns : goal.returns
 returns c =
     λ l.
     let answered =
-        option_some c.args.self.now (lend_heap c.args.heap.now l) c.in-Some.v (option-passed _ (lend_heap _ l) _ c.in_ok-heap_fits.ensures c.in_ok-pages_belong.ensures)
-        (outcome c.boxed-address.result c.boxed-address.new.heap.gc c.boxed-address.new.heap.bytes.now) c.boxed-address.ensures.outcome
+    option_some c.args.self.now (lend_heap c.args.heap.now l) c.in-Some.v (option-passed _ (lend_heap _ l) _ c.in_ok-heap_fits.ensures c.in_ok-pages_belong.ensures)
+    (outcome c.boxed-address.result c.boxed-address.new.heap.gc c.boxed-address.new.heap.bytes.now) c.boxed-address.ensures.outcome
     in
     rw (c.in-Some.is, c.ok_or.ensures.value) (search (rules, answered))

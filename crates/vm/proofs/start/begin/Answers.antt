@@ -12,7 +12,7 @@ pub returns : goal.returns
 returns c =
     λ l.
     let begun =
-        begun_with _ (lend_begin c.args.frames.now c.args.heap.now l) _ _ _
-        (first_laid _ _ c.requires.1.1 _ _ _ (rw (no_page _ _ c.blank-state.ensures) at c.boxed.ensures.outcome)) _ c.blank-state.ensures
+    begun_with _ (lend_begin c.args.frames.now c.args.heap.now l) _ _ _
+    (first_laid _ _ c.requires.1.1 _ _ _ (rw (no_page _ _ c.blank-state.ensures) at c.boxed.ensures.outcome)) _ c.blank-state.ensures
     in
     search (rules, begun)
