@@ -165,12 +165,6 @@ lookup = masked 5 5 1 32
 pub only_number : (w : ℕ) → eqb (bit_and w 0x00000000ffffff00) 0 ≡ passes unused unused unused anyNumber (parts_of w)
 only_number = masked 0 0 0 32
 
-pub one-register : (w : ℕ) → eqb (bit_and w 0xffffffffffffe000) 0 ≡ passes register unused unused unused (parts_of w)
-one-register = masked 5 0 0 0
-
-pub bare : (w : ℕ) → eqb (bit_and w 0xffffffffffffff00) 0 ≡ passes unused unused unused unused (parts_of w)
-bare = masked 0 0 0 0
-
 pub alloc : (w : ℕ) → (eqb (bit_and w 0x0000000000fce000) 0 && is_alignment (parts_of w).three)
     ≡ passes register allocKind alignment anyNumber (parts_of w)
 alloc w = rw (by_mask register allocKind alignment anyNumber w, and-true)

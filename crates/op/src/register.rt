@@ -5,7 +5,7 @@ use std::marker::Model;
 
 pub const REGISTER_COUNT: usize = 32;
 
-// A byte, as in a word: with a number of 8 bytes a step of the loop took 1 to 4 instructions more, and about a fifth longer.
+// A byte, as in a word: with a number of 8 bytes a step of the loop took up to 4 instructions more, and about a fifth longer.
 #[derive(Clone, Copy, Debug, PartialEq, Eq)]
 pub struct Reg {
     number: u8,

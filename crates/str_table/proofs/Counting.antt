@@ -11,6 +11,7 @@ use lib.Dec.{leb, eqb, lit≤}
 use mir.Val.{bool_byte}
 use borrow.Author.Tests.{eq-eqb, ne_eqb, eqb-true, eqb-false, leb-true}
 use Rattle.std.specs.List.{list_any}
+use Rattle.std.proofs.Math.Bool.{and_assoc, and-true, or-false}
 use Rattle.memory.proofs.Tests.{both}
 use Rattle.string.specs.Payload.{reaches}
 use Rattle.str_table.specs.Sound.{slot_count, active_ok, filled_in, headers_in, count_ok, slots_ok}
@@ -30,14 +31,6 @@ one_if false = refl
 pub one_most : (b : Bool) → bool_byte b ≤ 1
 one_most true = omega arith
 one_most false = omega arith
-
-and_true : (b : Bool) → (b && true) ≡ b
-and_true true = refl
-and_true false = refl
-
-and_assoc : (a b c : Bool) → ((a && b) && c) ≡ (a && (b && c))
-and_assoc true b c = refl
-and_assoc false b c = refl
 
 module _ (base n : ℕ) (slots : List ℕ) where
   pub counting_start : Counting base n slots 0 true 0
@@ -61,7 +54,7 @@ module _ (base n : ℕ) (slots : List ℕ) where
     -- at the end
     all_heads : length slots ≤ i → headers_in base n slots ≡ heads
     unfolding headers_in
-    all_heads h = rw (drop_of_length-le slots h, and_true heads) at (sym g.in_pages)
+    all_heads h = rw (drop_of_length-le slots h, and-true heads) at (sym g.in_pages)
 
     all_filled : length slots ≤ i → filled_in slots ≡ filled
     unfolding filled_in
@@ -88,10 +81,6 @@ eqb_flip a b = go (eqb a b) refl
     go : (t : Bool) → eqb a b ≡ t → t ≡ eqb b a
     go true e = sym (eq-eqb b a (sym (eqb-true a b e)))
     go false e = sym (ne_eqb b a (λ q. eqb-false a b e (sym q)))
-
-or-false : (b : Bool) → (b || false) ≡ b
-or-false true = refl
-or-false false = refl
 
 -- as a list of them contains it
 pub list_any-slot_count : (n : ℕ) → list_any (λ m. eqb m n) (64 ∷ 128 ∷ 256 ∷ 512 ∷ 1024 ∷ 2048 ∷ 4096 ∷ []) ≡ slot_count n
