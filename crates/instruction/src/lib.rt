@@ -158,7 +158,7 @@ pub fn apply(
         ≡ turn effect (machine_in s pc regs.old frames.old heap.old l) }
     ensures listed { EndsListed effect → IsListed result }
 {
-    // lent: a match that moves a register out of an effect gets no proof
+    // a closed set, as in `meaning`; lent, since a match that moves a register out of an effect gets no proof
     match &effect {
         Effect::Set { dst, value } => set(pc, *dst, *value, regs),
         Effect::Skip => Turn::Next(pc + 1),

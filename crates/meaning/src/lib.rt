@@ -48,6 +48,7 @@ fn assert(b: bool) -> Effect
     }
 }
 
+// One match, since the instructions are a closed set: a table of functions or closures would hide from the compiler what it puts into the loop.
 #[tactic(auto, using(effects::proofs::Asks::difference), unfolding(effects::specs::Effect::effect_of))]
 fn effect_of(op: Op, regs: &[u64; 32], image: &Image) -> Effect
     ensures { result ≡ effect_of image.now regs.now op }
