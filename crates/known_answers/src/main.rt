@@ -1,7 +1,7 @@
 // Known answers of the crates below the machine, printed: a label, a number in hexadecimal.
 #![tactic(auto)]
 
-use gc::{AllocType, Gc, Metadata};
+use gc::{AllocType, Gc, Heap, Metadata};
 use std::io;
 use str_table::StrTable;
 use string::fxhash::{hash, small_hash};
@@ -86,15 +86,18 @@ fn casts(rt: &impl Print) -> io::Result<()> {
 
 // The address of a block in a heap of two pages, of which one is pushed and has 32 bytes in use; or 2.
 fn block(size: u64) -> u64 {
-    let mut heap = [0u8; 8192];
-    let mut gc = Gc {
+    let gc = Gc {
         base: 65536,
         pushed: 4096,
         page: 0,
         len: 32,
     };
-    let m = Metadata::new(AllocType::Record, false, size);
-    gc.alloc(m, &mut heap).unwrap_or(2)
+    let mut heap = Heap {
+        gc,
+        bytes: &mut [0; 8192],
+    };
+    heap.alloc(Metadata::new(AllocType::Record, false, size))
+        .unwrap_or(2)
 }
 
 fn blocks(rt: &impl Print) -> io::Result<()> {
