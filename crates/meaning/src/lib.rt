@@ -169,7 +169,7 @@ fn effect_of(op: Op, regs: &[u64; 32], image: &Image) -> Effect
             kind,
             subject,
             table,
-        } => tables::switch(kind, subject.read(regs), table, &image.switches()),
+        } => tables::switch(kind, subject.read(regs), table, image.switches()),
         Op::Lookup {
             kind,
             dst,
@@ -180,7 +180,7 @@ fn effect_of(op: Op, regs: &[u64; 32], image: &Image) -> Effect
             dst,
             subject.read(regs),
             table,
-            &image.lookups(),
+            image.lookups(),
             image.defaults(),
         ),
         Op::Tail { func } => Effect::Goto { target: func },

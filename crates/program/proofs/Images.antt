@@ -18,7 +18,7 @@ use Rattle.op.specs.declared.Counts.{Counts}
 use Rattle.op.specs.Reach.{check_of}
 use Rattle.memory.proofs.Tests.{both}
 use Rattle.program.proofs.Tests.{failing-cons}
-use Rattle.program.specs.Image.{Image, test, counts, rising, tables_ok, image_ok, ends_in_halt, below, word_test, word_tests, image_tests, failing, Readable}
+use Rattle.program.specs.Image.{Image, test, counts, rising, tables_ok, image_ok, ends_in_halt, below, word_test, word_tests, image_tests, failing}
 
 -- a pass that has come to i
 module _ (A : Type 0) (f : List ℕ → A) (xs : List ℕ) (i : ℕ) (whole : A) (g : f (drop i xs) ≡ whole) where
@@ -97,7 +97,8 @@ module _ (lent : Bool) (im : Image) where
       word_by_word e = rw (size, halts, e, failing) refl
 
 -- the tables of an image that passes its tests
-pub passed_tables : (im : Image) → failing (image_tests true im) ≡ none → Readable im
+pub passed_tables : (im : Image) → failing (image_tests true im) ≡ none
+    → (tables_ok im.switches ≡ true) × (tables_ok im.lookups ≡ true) × (length im.defaults ≡ length im.lookups.firsts)
 unfolding image_tests image_ok
 passed_tables im p =
     let size = (failing-cons (test (image_ok im) 10) _ p).0 in

@@ -1,7 +1,7 @@
 -- Words cut into sections: what ends that go up say, and how long the sections are. Assumes nothing.
 use mathlib.Core.Path.{◌≡◌, refl, sym, ◌∙◌}
 use Prim.Native.Nat.{ℕ, zero, suc, ◌+◌, ◌-◌, ◌≤◌, ◌<◌}
-use mathlib.Core.Bool.{Bool, true, false, ◌&&◌, and-false, and_comm}
+use mathlib.Core.Bool.{Bool, true, false, ◌&&◌, and-false, and_comm, true≢false}
 use mathlib.Core.Option.{none, some}
 use mathlib.Core.List.{List, [], ◌∷◌}
 use native.Mathlib.Omega.{arith}
@@ -10,11 +10,12 @@ use lib.ListN.{length, get_or, take, length-take, length-drop}
 use lib.Seq.{get_or-take, length-take-le}
 use lib.Dec.{leb, eqb}
 use borrow.Author.Tests.{leb-true, eqb-true}
+use Rattle.std.specs.Prelude as std
+use Rattle.std.specs.Option.{MatchOption}
 use Rattle.memory.proofs.Tests.{both}
 use Rattle.program.specs.Image.{Image, rising, tables_fit, tables_ok, image_ok, image_tests, failing}
 use Rattle.program.specs.Words.{between, fits, cut, image_in, Ordered}
 use Rattle.program.proofs.Entries.{rising_to, rising_at, rising-on}
-use Rattle.program.proofs.Images.{refused_10}
 
 pub length-between : (a e : ℕ) (ws : List ℕ) → e ≤ length ws → length (between a e ws) ≡ e - a
 length-between a e ws h = simp (length-take, length-drop) (omega arith)
@@ -85,6 +86,10 @@ module _ (ws : List ℕ) where
       by true f = let k = rising_to 9 (take 9 ws) (length ws) (up f) in absurd (omega arith)
       by false f = refl
 
+  pub unfit_sized : fits ws ≡ false → image_ok (image_in ws) ≡ false
+  unfolding image_in image_ok tables_ok rising
+  unfit_sized f = rw f refl
+
   pub unfit_10 : fits ws ≡ false → (lent : Bool) → failing (image_tests lent (image_in ws)) ≡ some 10
   unfolding image_in image_tests failing image_ok tables_ok rising
   unfit_10 f true = rw (f, failing) refl
@@ -119,6 +124,52 @@ outside false b c d = refl
 outside true false c d = refl
 outside true true c d = refl
 
+-- ---- the tests of 10, one by one
+
+grouped : (a b c : Bool) → (a && b) ≡ true → (a && (b && c)) ≡ c
+grouped true true c e = refl
+grouped true false c e = absurd (true≢false (sym e))
+grouped false b c e = absurd (true≢false (sym e))
+
+ungrouped : (a b c : Bool) → (a && b) ≡ false → (a && (b && c)) ≡ false
+ungrouped true false c e = refl
+ungrouped false b c e = refl
+ungrouped true true c e = absurd (true≢false e)
+
+module _ (im : Image) where
+  abbrev few : Bool
+  few = leb (length im.code) 65536 && leb (length im.globals) 4096
+
+  abbrev defaulted : Bool
+  defaulted = eqb (length im.defaults) (length im.lookups.firsts)
+
+  pub too_many : few ≡ false → image_ok im ≡ false
+  unfolding image_ok
+  too_many e = ungrouped (leb (length im.code) 65536) (leb (length im.globals) 4096) _ e
+
+  module _ (e : few ≡ true) where
+    tables-decide : image_ok im ≡ (tables_ok im.switches && (tables_ok im.lookups && defaulted))
+    unfolding image_ok
+    tables-decide = grouped (leb (length im.code) 65536) (leb (length im.globals) 4096) _ e
+
+    pub no_switches : tables_ok im.switches ≡ false → image_ok im ≡ false
+    no_switches s = tables-decide ∙ rw s refl
+
+    module _ (s : tables_ok im.switches ≡ true) where
+      pub no_lookups : tables_ok im.lookups ≡ false → image_ok im ≡ false
+      no_lookups l = tables-decide ∙ rw (s, l) refl
+
+      module _ (l : tables_ok im.lookups ≡ true) where
+        defaults-decide : (b : Bool) → defaulted ≡ b → image_ok im ≡ b
+        defaults-decide b d = tables-decide ∙ rw (s, l, d) refl
+
+        pub image_made : (r : std.Option Image) → MatchOption r (defaulted ≡ false) (λ x. (defaulted ≡ true) × (x ≡ im))
+            → MatchOption r (image_ok im ≡ false) (λ x. (image_ok x ≡ true) × (x ≡ im))
+        image_made std.None d = defaults-decide false d
+        image_made (std.Some x) d = (rw d.1 (defaults-decide true d.0), d.1)
+
+-- ---- the sizes of sections
+
 module _ (im : Image) where
   abbrev switches_fit : Bool
   switches_fit = tables_fit (length im.switches.firsts) (length im.switches.ends) (length im.switches.entries)
@@ -140,23 +191,6 @@ module _ (im : Image) where
       rw (regroup switches_fit _ lookups_fit _ _)
       (outside (leb (length im.code) 65536) (leb (length im.globals) 4096)
       (switches_fit && (lookups_fit && eqb (length im.defaults) (length im.lookups.firsts))) risen)
-
-  -- as the code tests it
-  module _ (switches lookups : Bool) (s : switches ≡ switches_fit) (l : lookups ≡ lookups_fit) where
-    abbrev tested : Bool
-    tested =
-        leb (length im.code) 65536
-        && (leb (length im.globals) 4096 && (switches && (lookups && eqb (length im.defaults) (length im.lookups.firsts))))
-
-    as_tested : {b : Bool} → tested ≡ b → sized ≡ b
-    as_tested e = rw (← s, ← l) e
-
-    pub sizes_fail : tested ≡ false → false ≡ image_ok im
-    sizes_fail e = sym (sizes_then_ends ∙ rw (as_tested e) refl)
-
-    pub ends_decide : (u v : Bool) → tested ≡ true → u ≡ rising 0 im.switches.ends (length im.switches.entries)
-        → v ≡ rising 0 im.lookups.ends (length im.lookups.entries) → (u && v) ≡ image_ok im
-    ends_decide u v e first second = rw (first, second) (sym (sizes_then_ends ∙ rw (as_tested e) refl))
 
 module _ (ws : List ℕ) (o : Ordered ws) where
   -- the sizes of the sections, by their ends
@@ -209,8 +243,8 @@ module _ (ws : List ℕ) (o : Ordered ws) where
 -- ---- an image of more words than its sections may have
 
 module _ (ws : List ℕ) (l : 79113 < length ws) where
-  pub too_long : (lent : Bool) → some 10 ≡ failing (image_tests lent (image_in ws))
-  too_long lent = by (fits ws) refl
+  pub too_long : image_ok (image_in ws) ≡ false
+  too_long = by (fits ws) refl
     where
       -- its sections are not all as long as they may be
       unsized : (f : fits ws ≡ true) (b : Bool) → image_ok (cut ws) ≡ b → b ≡ false
@@ -220,6 +254,6 @@ module _ (ws : List ℕ) (l : 79113 < length ws) where
           absurd (omega (arith, all_words ws f))
       unsized f false e = refl
 
-      by : (b : Bool) → fits ws ≡ b → some 10 ≡ failing (image_tests lent (image_in ws))
-      by true f = rw (image-is ws f) (refused_10 lent (cut ws) (rw (unsized f _ refl) (and-false lent)))
-      by false f = refused-unfit ws f lent
+      by : (b : Bool) → fits ws ≡ b → image_ok (image_in ws) ≡ false
+      by true f = rw (image-is ws f) (unsized f _ refl)
+      by false f = unfit_sized ws f

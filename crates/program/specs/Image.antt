@@ -86,10 +86,6 @@ image_ok im =
     && (tables_ok im.lookups
     && eqb (length im.defaults) (length im.lookups.firsts))))
 
--- what reads of an image's tables rely on: of each kind the ends are in order, and a `Lookup` table has its default
-abbrev pub Readable : Image → Type 0
-Readable im = (tables_ok im.switches ≡ true) × (tables_ok im.lookups ≡ true) × (length im.defaults ≡ length im.lookups.firsts)
-
 -- 11: 'code not empty, byte 0 of the last word isn't 59'
 unfoldable pub ends_in_halt : List ℕ → Bool
 ends_in_halt [] = true

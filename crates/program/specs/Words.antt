@@ -1,9 +1,8 @@
 -- An image as it is lent, in words: the ends of nine sections, then the sections in a row. Definitions only.
-use Rattle.std.specs.Prelude.{ℕ, ◌+◌, ◌-◌, ◌≤◌, ◌≡◌, Bool, true, cond, List, [], ◌∷◌, length, get_or, take, drop}
+use Rattle.std.specs.Prelude.{ℕ, ◌+◌, ◌-◌, ◌≤◌, ◌≡◌, Bool, false, cond, List, [], ◌∷◌, length, get_or, take, drop}
 use Rattle.std.specs.Prelude as std
 use Rattle.std.specs.Option.{MatchOption}
-use Rattle.std.proofs.Math.Option.{some}
-use Rattle.program.specs.Image.{Image, tables_of, image_of, rising, image_tests, failing}
+use Rattle.program.specs.Image.{Image, tables_of, image_of, rising, image_ok}
 
 -- the words from a up to e
 abbrev pub between : ℕ → ℕ → List ℕ → List ℕ
@@ -40,4 +39,4 @@ Ordered ws =
 
 -- the sections that the code cuts, of words that are as many as they may be
 abbrev pub Cuts : List ℕ → std.Option Image → Type 0
-Cuts ws r = MatchOption r (failing (image_tests true (image_in ws)) ≡ some 10) (λ im. (fits ws ≡ true) × (im ≡ cut ws))
+Cuts ws r = MatchOption r (image_ok (image_in ws) ≡ false) (λ im. im ≡ image_in ws)

@@ -1,6 +1,7 @@
 // An image, cut into its sections, whose tables can be read.
-ghost use Rattle.std.specs.Prelude.{◌≡◌, ◌<◌, true, length, IfOk};
-ghost use Rattle.program.specs.Image.{image_ok, image_tests, failing, refused_with, IsTable, start_of, counts};
+ghost use Rattle.std.specs.Prelude.{◌≡◌, ◌<◌, ◌==◌, true, false, length, IfOk};
+ghost use Rattle.std.specs.Option.{MatchOption};
+ghost use Rattle.program.specs.Image.{tables_of, tables_ok, image_of, image_ok, image_tests, failing, refused_with, IsTable, start_of, counts};
 ghost use Rattle.program.specs.Words.{cut, image_in, Cuts, Ordered};
 
 use crate::loader::{below, ends_in_halt, fits, rising, tables_fit, words_ok};
@@ -29,6 +30,31 @@ impl<'a> Model for Tables<'a> {
 }
 
 impl<'a> Tables<'a> {
+    // Tables of these, unless 10 refuses them: their ends are read once there are not too many.
+    pub fn new(firsts: &'a [u64], ends: &'a [u64], entries: &'a [u64]) -> Option<Tables<'a>>
+        ensures { MatchOption result (tables_ok (tables_of firsts.now ends.now entries.now) ≡ false) (λ t.
+            (tables_ok t ≡ true) × (t ≡ tables_of firsts.now ends.now entries.now)) }
+    {
+        if !tables_fit(firsts.len(), ends.len(), entries.len()) {
+            return None;
+        }
+        if !rising(0, ends, entries.len()) {
+            return None;
+        }
+        Some(Tables {
+            firsts,
+            ends,
+            entries,
+        })
+    }
+
+    // Those of all tables in a row.
+    fn entries(&self) -> &'a [u64]
+        ensures { result.now ≡ self.now.entries }
+    {
+        self.entries
+    }
+
     // The first key of a table, and its entries. The ends that are checked go up to the number of entries.
     pub fn get(&self, table: usize) -> Option<(u64, &'a [u64])>
         ensures { IsTable self.now table result }
@@ -113,29 +139,81 @@ impl<'a> Sections<'a> {
             defaults: &words[defaults..end],
         }
     }
+}
 
-    // 10. The ends of tables are read once every section is as long as it may be.
-    fn sizes_ok(&self) -> bool
-        ensures { result ≡ image_ok self.now }
+// An image whose tables are in order, each `Lookup` table with its default. `load` makes it of words that pass every test.
+#[derive(Drop)]
+pub struct Image<'a> {
+    code: &'a [u64],
+    globals: &'a [u64],
+    switches: Tables<'a>,
+    lookups: Tables<'a>,
+    // of each `Lookup` table what it has where there is no entry
+    defaults: &'a [u64],
+}
+
+impl<'a> Model for Image<'a> {
+    ghost use Rattle.std.specs.Prelude.{◌≡◌, length};
+    ghost use Rattle.program.specs.Image.{Image, image_of};
+
+    ghost Value = { Image };
+
+    ghost view = { λ i. image_of i.code.now i.globals.now i.switches i.lookups i.defaults.now };
+
+    ghost invariant = { λ i. length i.defaults.now ≡ length i.lookups.firsts };
+}
+
+impl<'a> Image<'a> {
+    // An image of these, unless defaults are missing or are too many.
+    pub fn new(
+        code: &'a [u64],
+        globals: &'a [u64],
+        switches: Tables<'a>,
+        lookups: Tables<'a>,
+        defaults: &'a [u64],
+    ) -> Option<Image<'a>>
+        ensures { MatchOption result ((length defaults.now == length lookups.entry.firsts) ≡ false) (λ im.
+            ((length defaults.now == length lookups.entry.firsts) ≡ true)
+            × (im ≡ image_of code.now globals.now switches.entry lookups.entry defaults.now)) }
     {
-        let switches = tables_fit(
-            self.switch_firsts.len(),
-            self.switch_ends.len(),
-            self.switch_entries.len(),
-        );
-        let lookups = tables_fit(
-            self.lookup_firsts.len(),
-            self.lookup_ends.len(),
-            self.lookup_entries.len(),
-        );
-        if !((self.code.len() <= MAX_CODE)
-            & ((self.globals.len() <= MAX_GLOBALS)
-                & (switches & (lookups & (self.defaults.len() == self.lookup_firsts.len())))))
-        {
-            return false;
+        if defaults.len() != lookups.firsts.len() {
+            return None;
         }
-        rising(0, self.switch_ends, self.switch_entries.len())
-            & rising(0, self.lookup_ends, self.lookup_entries.len())
+        Some(Image {
+            code,
+            globals,
+            switches,
+            lookups,
+            defaults,
+        })
+    }
+
+    // The image that is cut out of words, unless 10 refuses it.
+    fn cut(words: &'a [u64]) -> Option<Image<'a>>
+        ensures { MatchOption result (image_ok (image_in words.now) ≡ false) (λ im.
+            (image_ok im ≡ true) × (im ≡ image_in words.now)) }
+    {
+        let sections = Sections::cut(words)?;
+        if !((sections.code.len() <= MAX_CODE) & (sections.globals.len() <= MAX_GLOBALS)) {
+            return None;
+        }
+        let switches = Tables::new(
+            sections.switch_firsts,
+            sections.switch_ends,
+            sections.switch_entries,
+        )?;
+        let lookups = Tables::new(
+            sections.lookup_firsts,
+            sections.lookup_ends,
+            sections.lookup_entries,
+        )?;
+        Image::new(
+            sections.code,
+            sections.globals,
+            switches,
+            lookups,
+            sections.defaults,
+        )
     }
 
     #[tactic(auto, unfolding(crate::specs::Image::counts))]
@@ -145,93 +223,58 @@ impl<'a> Sections<'a> {
         Counts {
             code: self.code.len(),
             globals: self.globals.len(),
-            switches: self.switch_firsts.len(),
-            lookups: self.lookup_firsts.len(),
+            switches: self.switches.firsts.len(),
+            lookups: self.lookups.firsts.len(),
         }
     }
-}
 
-// An image whose tables are in order, as 10 asks. `load` makes it of words that pass every test.
-#[derive(Drop)]
-pub struct Image<'a> {
-    sections: Sections<'a>,
-}
-
-impl<'a> Model for Image<'a> {
-    ghost use Rattle.program.specs.Image.{Image, Readable};
-
-    ghost Value = { Image };
-
-    ghost view = { λ i. i.sections };
-
-    ghost invariant = { λ i. Readable i.sections };
-}
-
-impl<'a> Image<'a> {
     // The image of words; or the number by which they are refused: 10, 11, 16, then word by word 12 to 15.
     pub fn load(words: &'a [u64]) -> Result<Image<'a>, Refusal>
         ensures image { IfOk result (λ im. im ≡ image_in words.now) }
         ensures refused { refused_with result ≡ failing (image_tests true (image_in words.now)) }
     {
-        let Some(sections) = Sections::cut(words) else {
+        let Some(image) = Image::cut(words) else {
             return Err(Refusal::Size);
         };
-        if !sections.sizes_ok() {
-            return Err(Refusal::Size);
-        }
-        let code = sections.code;
+        let code = image.code();
         if !ends_in_halt(code) {
             return Err(Refusal::NoHalt);
         }
-        if !below(code.len(), sections.switch_entries) {
+        if !below(code.len(), image.switches().entries()) {
             return Err(Refusal::TableTarget);
         }
-        words_ok(code, sections.counts())?;
-        Ok(Image { sections })
+        words_ok(code, image.counts())?;
+        Ok(image)
     }
 
     pub fn code(&self) -> &'a [u64]
         ensures { result.now ≡ self.now.code }
     {
-        let sections = &self.sections;
-        sections.code
+        self.code
     }
 
     pub fn globals(&self) -> &'a [u64]
         ensures { result.now ≡ self.now.globals }
     {
-        let sections = &self.sections;
-        sections.globals
+        self.globals
     }
 
-    pub fn switches(&self) -> Tables<'a>
-        ensures { result ≡ self.now.switches }
+    pub fn switches(&self) -> &Tables<'a>
+        ensures { result.now ≡ self.now.switches }
     {
-        let sections = &self.sections;
-        Tables {
-            firsts: sections.switch_firsts,
-            ends: sections.switch_ends,
-            entries: sections.switch_entries,
-        }
+        &self.switches
     }
 
-    pub fn lookups(&self) -> Tables<'a>
-        ensures { result ≡ self.now.lookups }
+    pub fn lookups(&self) -> &Tables<'a>
+        ensures { result.now ≡ self.now.lookups }
     {
-        let sections = &self.sections;
-        Tables {
-            firsts: sections.lookup_firsts,
-            ends: sections.lookup_ends,
-            entries: sections.lookup_entries,
-        }
+        &self.lookups
     }
 
-    // Of each `Lookup` table what it has where there is no entry.
     pub fn defaults(&self) -> &'a [u64]
         ensures defaults { result.now ≡ self.now.defaults }
         ensures each { length result.now ≡ length self.now.lookups.firsts }
     {
-        let sections = &self.sections;
-        sections.defaults
+        self.defaults
     }
 }
