@@ -8,7 +8,7 @@ use Rattle.anomaly.specs.declared.Refusal.{Refusal}
 use Rattle.anomaly.specs.declared.Refusal.TheVariants.{Memory, State, Size, NoHalt, Opcode, Operand, Target, Index, TableTarget}
 use Rattle.anomaly.specs.declared.Refusal.TheVariants.{SmallString, TableFull, Text}
 use Rattle.anomaly.specs.declared.End.{End}
-use Rattle.anomaly.specs.declared.End.TheVariants.{Halt, Budget, Stopped, Refused}
+use Rattle.anomaly.specs.declared.End.TheVariants.{Halt, Budget, Stopped}
 
 -- the ends that leave the state from before an instruction: zero divisor, allocation refused, depth equals frames, false Assert,
 -- address, quotient overflow, Ret at depth 0
@@ -56,17 +56,13 @@ abbrev pub number_of_end : End → ℕ
 number_of_end (Halt pc steps) = 0
 number_of_end (Budget pc steps) = 5
 number_of_end (Stopped why pc steps) = number_of_anomaly why
-number_of_end (Refused why) = number_of_refusal why
 
--- pc and steps of an end; a refused call has neither, and 0 stands for both
 abbrev pub pc_of_end : End → ℕ
 pc_of_end (Halt pc steps) = pc
 pc_of_end (Budget pc steps) = pc
 pc_of_end (Stopped why pc steps) = pc
-pc_of_end (Refused why) = 0
 
 abbrev pub steps_of_end : End → ℕ
 steps_of_end (Halt pc steps) = steps
 steps_of_end (Budget pc steps) = steps
 steps_of_end (Stopped why pc steps) = steps
-steps_of_end (Refused why) = 0

@@ -1,12 +1,11 @@
 // What stops a run, what refuses a call, and how a run ends. Each has its number in document 01, 'Ends and numbers':
-// the constants below, and the definitions of specs/Table.antt. It is asked for by `number`, and not by `u64::from`: an end has a
-// number, a `pc` and `steps`, and `u64::from(end)` would not say which of the three.
+// the constants below, which stand once (a discriminant would say them again), and the definitions of specs/Table.antt. It is asked for by
+// `number`, and not by `u64::from`: of an end, which has a number, a `pc` and `steps`, that would not say which of the three.
 #![tactic(auto)]
 
 ghost use Rattle.std.specs.Prelude.{◌≡◌};
 ghost use Rattle.anomaly.specs.Table.{number_of_anomaly, number_of_refusal, number_of_end, pc_of_end, steps_of_end};
 ghost use Rattle.anomaly.specs.Table.{NumbersAnomaly, NumbersRefusal};
-ghost use Rattle.anomaly.specs.declared.End.TheVariants.{Refused};
 
 // The width of a budget and of a count of steps.
 pub type Steps = u32;
@@ -178,7 +177,7 @@ impl TryFrom<u64> for Refusal {
     }
 }
 
-// What a run answers.
+// How a run ends that is not refused.
 #[derive(Clone, Copy, Debug, PartialEq, Eq)]
 pub enum End {
     // At a Halt, or with nothing to run.
@@ -197,7 +196,6 @@ pub enum End {
         pc: usize,
         steps: Steps,
     },
-    Refused(Refusal),
 }
 
 impl End {
@@ -212,17 +210,14 @@ impl End {
             End::Halt { .. } => End::HALT,
             End::Budget { .. } => End::BUDGET,
             End::Stopped { why, .. } => why.number(),
-            End::Refused(why) => why.number(),
         }
     }
 
-    // Of a refused call, which has no pc and made no step, 0.
     pub fn pc(self) -> usize
         ensures { result ≡ pc_of_end self }
     {
         match self {
             End::Halt { pc, .. } | End::Budget { pc, .. } | End::Stopped { pc, .. } => pc,
-            End::Refused(_) => 0,
         }
     }
 
@@ -232,15 +227,6 @@ impl End {
         match self {
             End::Halt { steps, .. } | End::Budget { steps, .. } | End::Stopped { steps, .. } =>
                 steps,
-            End::Refused(_) => 0,
         }
-    }
-}
-
-impl From<Refusal> for End {
-    ghost from_gives = { λ why end. end ≡ Refused why };
-
-    fn from(why: Refusal) -> End {
-        End::Refused(why)
     }
 }

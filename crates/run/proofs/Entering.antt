@@ -6,13 +6,15 @@ use Rattle.memory.proofs.Tests.{both}
 use Rattle.gc.specs.Lent.{InHeap}
 use Rattle.gc.specs.Lent as Heap
 use Rattle.gc.proofs.Soundness as Soundness
+use Rattle.anomaly.specs.declared.End.{End}
+use Rattle.anomaly.specs.Table.{number_of_end, pc_of_end, steps_of_end}
 use Rattle.program.specs.Image.{Image, test, image_tests, failing}
 use Rattle.vm.specs.declared.State.{State}
 use Rattle.vm.specs.Core.{Core, set_regs, set_pc, set_frames}
 use Rattle.vm.specs.Run.{Ran, go, root, entered, stored}
 use Rattle.vm.specs.Machine.{Lent, Machine, lend_frames, sizes, memory_of, view, with_pages, traced, with_frames, with_regs, laid, run, Called, ended}
 use Rattle.vm.specs.Machine.{ran, idle, runs, run_leaves, run_call, frames_ok, heap_ok, frames_belong, pages_belong, tests_by, tests}
-use Rattle.vm.specs.Told.{machine_of}
+use Rattle.vm.specs.Told.{machine_of, answer_of}
 use Rattle.instruction.specs.Turn.{Position, position_of, Fitting}
 use Rattle.run.specs.Loop.{Going, Finished, finishes, finished, stored_pc}
 use Rattle.program.proofs.Tests.{failing-here, failing_later, failing-first}
@@ -31,6 +33,14 @@ root_is n k e = rw e refl
 take_first : (d : ℕ) (xs : List ℕ) (v : ℕ) → take d (set xs 0 v) ≡ set (take d xs) 0 v
 take_first zero xs v = refl
 take_first (suc d) xs v = take-set-lt (suc d) xs 0 v (omega arith)
+
+-- ---- an end as it is answered
+
+pub answer_is : (end : End) → answer_of end ≡ ended (number_of_end end) (pc_of_end end) (steps_of_end end)
+unfolding answer_of
+answer_is (End.Halt pc steps) = refl
+answer_is (End.Budget pc steps) = refl
+answer_is (End.Stopped why pc steps) = refl
 
 -- ---- the tests: of the image, then of the state
 

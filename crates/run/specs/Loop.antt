@@ -5,9 +5,8 @@ use Rattle.vm.specs.declared.State.{State}
 use Rattle.gc.specs.declared.Heap.{Heap}
 use Rattle.instruction.specs.declared.frames.Frames.{Frames}
 use Rattle.instruction.specs.Turn.{Position, machine_in, Fitting}
-use Rattle.anomaly.specs.Table.{number_of_anomaly}
-use Rattle.run.specs.declared.Ending.{Ending}
-use Rattle.run.specs.declared.Ended.{Ended}
+use Rattle.anomaly.specs.declared.End.{End}
+use Rattle.anomaly.specs.Table.{number_of_end, pc_of_end, steps_of_end}
 use Rattle.vm.specs.Run.{Ran, go}
 use Rattle.vm.specs.Machine.{Lent, Machine, sizes, view, laid}
 use Rattle.vm.specs.Loaded.{Returns}
@@ -31,18 +30,12 @@ pub record Finished : Type 0 where
 unfoldable pub finishes : ℕ → Machine → Ran → Finished
 finishes n m r = record { ending = r.ending; steps = n + r.steps; machine = laid r.trail r.core m }
 
--- 0 at Halt, 5 when the budget is completed
-abbrev pub number_of_ending : Ending → ℕ
-number_of_ending Ending.Halt = 0
-number_of_ending Ending.Budget = 5
-number_of_ending (Ending.Stopped why) = number_of_anomaly why
-
 -- what is left of a run that has completed n steps and may complete b more
 unfoldable pub finished : Image → ℕ → ℕ → Machine → Finished
 finished im b n m = finishes n m (go (sizes m.lent) im b (view m))
 
-abbrev pub finished_in : State → List ℕ → Frames → Heap → Lent → Ended → Finished
-finished_in s regs f h l r = record { ending = number_of_ending r.ending; steps = r.steps; machine = machine_in s r.pc regs f h l }
+abbrev pub finished_in : State → List ℕ → Frames → Heap → Lent → End → Finished
+finished_in s regs f h l e = record { ending = number_of_end e; steps = steps_of_end e; machine = machine_in s (pc_of_end e) regs f h l }
 
 -- the pc after a run: 'After every end but 0 and 5 the stored pc is the one from before the run'
 abbrev pub stored_pc : ℕ → ℕ → ℕ → ℕ

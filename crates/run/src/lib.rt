@@ -3,15 +3,15 @@
 
 ghost use Rattle.std.specs.Prelude.{◌≡◌, ℕ, true, length, IfOk};
 ghost use Rattle.std.proofs.Math.Option.{none};
-ghost use Rattle.anomaly.specs.Table.{number_of_anomaly};
+ghost use Rattle.anomaly.specs.Table.{number_of_anomaly, number_of_end, pc_of_end};
 ghost use Rattle.effects.specs.Stops.{number_of_stop, IsAnomaly};
 ghost use Rattle.vm.specs.declared.State.{State};
 ghost use Rattle.program.specs.Image.{image_tests, failing, refused_with};
 ghost use Rattle.program.specs.Words.{image_in};
-ghost use Rattle.vm.specs.Machine.{Lent, lend_run, keep_pc, run, tests, run_call, perform, ended};
-ghost use Rattle.vm.specs.Told.{machine_of, answer_of, told};
+ghost use Rattle.vm.specs.Machine.{Lent, lend_run, keep_pc, run, tests, run_call, perform};
+ghost use Rattle.vm.specs.Told.{machine_of, answer_by, answer_of, told};
 ghost use Rattle.instruction.specs.Turn.{standing, lend_in, machine_in};
-ghost use Rattle.run.specs.Loop.{Going, finished, finished_in, number_of_ending, stored_pc};
+ghost use Rattle.run.specs.Loop.{Going, finished, finished_in, stored_pc};
 
 use anomaly::{Anomaly, End, Refusal, Steps};
 use effects::Stop;
@@ -20,22 +20,6 @@ use instruction::frames::Frames;
 use instruction::{Turn, apply};
 use program::Image;
 use vm::{State, lent};
-
-// How a run that is not refused ends.
-#[derive(Clone, Copy, Debug, PartialEq, Eq)]
-enum Ending {
-    Halt,
-    Budget,
-    Stopped(Anomaly),
-}
-
-// How and where a run ended, and the steps completed.
-#[derive(Clone, Copy)]
-struct Ended {
-    ending: Ending,
-    pc: usize,
-    steps: Steps,
-}
 
 // A word that the loader has passed stops a run by nothing but an anomaly.
 fn anomaly(why: Stop) -> Anomaly
@@ -48,8 +32,8 @@ fn anomaly(why: Stop) -> Anomaly
     }
 }
 
-// The loop, an instruction a turn. It does not test its pc: every turn leaves it inside the code. A function of its own: in its caller it had
-// fewer registers, and took a seventh more instructions a step.
+// The loop, an instruction a turn. It does not test its pc: every turn leaves it inside the code. A function of its own: put into its
+// caller it has fewer registers, and takes a seventh more instructions a step.
 #[inline(never)]
 fn go(
     from: usize,
@@ -58,7 +42,7 @@ fn go(
     image: &Image,
     frames: &mut Frames,
     heap: &mut Heap,
-) -> Ended
+) -> End
     requires passed { failing (image_tests true image.now) ≡ none }
     requires going { (l : Lent)
         → Going (length image.now.code) (standing from frames.old heap.old) (lend_in frames.old heap.old l) }
@@ -77,26 +61,17 @@ fn go(
                 pc = to;
             }
             Turn::Halt => {
-                return Ended {
-                    ending: Ending::Halt,
-                    pc,
-                    steps: steps + 1,
-                };
+                let steps = steps + 1;
+                return End::Halt { pc, steps };
             }
             Turn::Stop(why) => {
-                return Ended {
-                    ending: Ending::Stopped(anomaly(why)),
-                    pc,
-                    steps,
-                };
+                let why = anomaly(why);
+                return End::Stopped { why, pc, steps };
             }
         }
     }
-    Ended {
-        ending: Ending::Budget,
-        pc,
-        steps: budget,
-    }
+    let steps = budget;
+    End::Budget { pc, steps }
 }
 
 // Nothing to run.
@@ -106,19 +81,14 @@ fn idle(pc: usize) -> End
     End::Halt { pc, steps: 0 }
 }
 
-// After every end but 0 and 5 the stored pc is the one from before the run. The rest of the state is as the run left it.
-fn finish(state: &mut State, e: Ended) -> End
-    ensures { (answer_of result ≡ ended (number_of_ending e.ending) e.pc e.steps)
-        × (state.new ≡ keep_pc (stored_pc (number_of_ending e.ending) state.old.pc e.pc) state.old) }
+// After every end but 0 and 5 the stored pc is the one from before the run.
+fn store_pc(state: &mut State, end: End)
+    ensures { state.new ≡ keep_pc (stored_pc (number_of_end end) state.old.pc (pc_of_end end)) state.old }
 {
-    let Ended { ending, pc, steps } = e;
-    let (end, stored) = match ending {
-        Ending::Halt => (End::Halt { pc, steps }, pc),
-        Ending::Budget => (End::Budget { pc, steps }, pc),
-        Ending::Stopped(why) => (End::Stopped { why, pc, steps }, state.pc),
-    };
-    state.pc = stored;
-    end
+    match end {
+        End::Halt { pc, .. } | End::Budget { pc, .. } => state.pc = pc,
+        End::Stopped { .. } => {}
+    }
 }
 
 // A run that is not refused. It writes frame 0 on code that is not empty, even if pc is past its end.
@@ -151,7 +121,7 @@ fn run_checked(
         gc: state.gc,
         bytes: heap,
     };
-    let e = go(
+    let end = go(
         state.pc,
         budget,
         &mut state.regs,
@@ -161,7 +131,8 @@ fn run_checked(
     );
     state.depth = frames.depth;
     state.gc = heap.gc;
-    finish(state, e)
+    store_pc(state, end);
+    end
 }
 
 // The image, unless it, the buffers lent or the state is refused: 10, 11, 16, 12 to 15 word by word, then 9.
@@ -194,14 +165,12 @@ pub fn run(
     image: &[u64],
     frames: &mut [u64],
     heap: &mut [u8],
-) -> End
+) -> Result<End, Refusal>
     ensures { (l : Lent)
-        → told (answer_of result) state.new (lend_run frames.new heap.new l)
+        → told (answer_by answer_of result) state.new (lend_run frames.new heap.new l)
         ≡ perform (run (image_in image.now) budget)
         (machine_of state.old (lend_run frames.old heap.old l)) }
 {
-    match tested(state, image, frames, heap) {
-        Ok(image) => run_checked(state, budget, &image, frames, heap),
-        Err(why) => End::from(why),
-    }
+    let image = tested(state, image, frames, heap)?;
+    Ok(run_checked(state, budget, &image, frames, heap))
 }

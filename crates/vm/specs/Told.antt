@@ -49,9 +49,8 @@ abbrev pub start_told : Result State Refusal → ℕ → Lent → Called
 start_told (Ok s) base l = told done s l
 start_told (Err why) base l = record { answer = refused (number_of_refusal why); machine = blank base l }
 
--- what a run is answered with
+-- how a run ends that is not refused
 unfoldable pub answer_of : End → Answer
 answer_of (End.Halt pc steps) = ended 0 pc steps
 answer_of (End.Budget pc steps) = ended 5 pc steps
 answer_of (End.Stopped why pc steps) = ended (number_of_anomaly why) pc steps
-answer_of (End.Refused why) = refused (number_of_refusal why)

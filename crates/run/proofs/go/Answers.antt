@@ -23,8 +23,8 @@ returns-in-Halt-clause-finished c =
     λ s l. halted-here _ ok _ _ _ _ _ _ _ _ c.loop-steps.invariant.0 c.loop-steps-test.true s l _
     (rw (c.word_effect-effect.ensures, c.code-code.ensures, c.in-Halt.is) at (c.apply.ensures.turned s l))
 
-pub anomaly-requires : goal.anomaly-requires
-anomaly-requires c =
+pub anomaly-why-requires : goal.anomaly-why-requires
+anomaly-why-requires c =
     let ok = loaded_by _ c.requires.passed (let h = c.loop-steps.invariant.0.here in omega arith) in
     rw c.in-Stop.is at (c.apply.ensures.listed
     (rw (c.word_effect-effect.ensures, c.code-code.ensures) (asks_listed _ ok _ _ _ _ _ _ _ _ c.loop-steps.invariant.0)))
@@ -32,7 +32,7 @@ anomaly-requires c =
 pub returns-in-Stop-clause-finished : goal.returns-in-Stop-clause-finished
 returns-in-Stop-clause-finished c =
     let ok = loaded_by _ c.requires.passed (let h = c.loop-steps.invariant.0.here in omega arith) in
-    λ s l. rw c.anomaly.ensures (stopped_here _ ok _ _ _ _ _ _ _ _ c.loop-steps.invariant.0 c.loop-steps-test.true s l _ _
+    λ s l. rw c.anomaly-why.ensures (stopped_here _ ok _ _ _ _ _ _ _ _ c.loop-steps.invariant.0 c.loop-steps-test.true s l _ _
     (rw (c.word_effect-effect.ensures, c.code-code.ensures, c.in-Stop.is) at (c.apply.ensures.turned s l)))
 
 pub loop-steps-preserved : goal.loop-steps-preserved

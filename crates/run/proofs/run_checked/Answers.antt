@@ -3,7 +3,7 @@ use Rattle.std.proofs.Common.{length, List, ℕ, sym, ap, ◌∙◌, arith, eqb-
 use borrow.Author.Tests.{eqb-false}
 use Rattle.vm.specs.Machine.{lend_run, unlent, with_regs}
 use Rattle.vm.specs.Told.{answer_of}
-use Rattle.run.proofs.Entering.{root_is, frame_there, image-passed, run_empty, run_past, run-goes, going}
+use Rattle.run.proofs.Entering.{root_is, frame_there, answer_is, image-passed, run_empty, run_past, run-goes, going}
 use Rattle.run.proofs.run_checked.Goals as goal
 
 pub returns-then-is_empty : goal.returns-then-is_empty
@@ -39,11 +39,11 @@ invariant_of-heap c =
           (omega (arith, words, c.if-code-state.false))).fitting.sound;
     }
 
-pub go-e-requires-clause-passed : goal.go-e-requires-clause-passed
-go-e-requires-clause-passed c = image-passed _ _ _ (lend_run _ _ unlent) (c.requires unlent)
+pub go-end-requires-clause-passed : goal.go-end-requires-clause-passed
+go-end-requires-clause-passed c = image-passed _ _ _ (lend_run _ _ unlent) (c.requires unlent)
 
-pub go-e-requires-clause-going : goal.go-e-requires-clause-going
-go-e-requires-clause-going c =
+pub go-end-requires-clause-going : goal.go-end-requires-clause-going
+go-end-requires-clause-going c =
     let words = ap (λ (ws : List ℕ). length ws) c.code-code.ensures in
     λ l. going _ _ _ (lend_run _ _ l) (c.requires l) (root_is _ _ words) (omega (arith, words, c.if-code-state.false))
 
@@ -54,6 +54,6 @@ returns c =
     λ l.
     let ran =
     run-goes _ _ _ (lend_run c.args.frames.now c.args.heap.now l) (c.requires l) (root_is _ _ words)
-    (omega (arith, words, c.if-code-state.false)) _ (c.go-e.ensures.finished c.args.state.now l)
+    (omega (arith, words, c.if-code-state.false)) _ (c.go-end.ensures.finished c.args.state.now l)
     in
-    rw (c.finish.ensures.0, c.finish.ensures.1) (search (rules, ran))
+    rw (answer_is, c.store_pc.ensures) (search (rules, ran))
