@@ -1,9 +1,8 @@
--- What ends are answered with, by their kinds. Assumes nothing.
+-- What ends are answered with. Assumes nothing.
 use mathlib.Core.Path.{◌≡◌, refl}
 use Prim.Native.Nat.{ℕ}
 use mathlib.Core.List.{List, [], ◌∷◌}
 use Rattle.memory.specs.Lists.{over}
-use Rattle.anomaly.specs.declared.Refusal.{Refusal}
 use Rattle.anomaly.specs.declared.End.{End}
 use Rattle.anomaly.specs.Table.{number_of_end, pc_of_end, steps_of_end}
 use Rattle.vm.specs.declared.State.{State}
@@ -16,22 +15,15 @@ unfolding answer_of
 end-number (End.Halt pc steps) = refl
 end-number (End.Budget pc steps) = refl
 end-number (End.Stopped why pc steps) = refl
-end-number (End.Refused why) = refl
 
--- an end, and no refusal
-abbrev pub IsEnd : End → Type 0
-IsEnd end = (why : Refusal) → end ≡ End.Refused why → ⊥
-
-pub end-answers : (end : End) → IsEnd end → (old : List ℕ) → pc_of_end end ∷ steps_of_end end ∷ [] ≡ answered (answer_of end) old
+pub end-answers : (end : End) (old : List ℕ) → pc_of_end end ∷ steps_of_end end ∷ [] ≡ answered (answer_of end) old
 unfolding answer_of
-end-answers (End.Halt pc steps) h old = refl
-end-answers (End.Budget pc steps) h old = refl
-end-answers (End.Stopped why pc steps) h old = refl
-end-answers (End.Refused why) h old = absurd (h why refl)
+end-answers (End.Halt pc steps) old = refl
+end-answers (End.Budget pc steps) old = refl
+end-answers (End.Stopped why pc steps) old = refl
 
-pub end_kept : (end : End) → IsEnd end → (s : State) (words : List ℕ) → over (packed s) words ≡ kept (answer_of end) s words
+pub end_kept : (end : End) (s : State) (words : List ℕ) → over (packed s) words ≡ kept (answer_of end) s words
 unfolding answer_of
-end_kept (End.Halt pc steps) h s words = refl
-end_kept (End.Budget pc steps) h s words = refl
-end_kept (End.Stopped why pc steps) h s words = refl
-end_kept (End.Refused why) h s words = absurd (h why refl)
+end_kept (End.Halt pc steps) s words = refl
+end_kept (End.Budget pc steps) s words = refl
+end_kept (End.Stopped why pc steps) s words = refl

@@ -21,6 +21,7 @@ pub fn answer<P: Pack>(called: Result<(), Refusal>, left: P, words: &mut Words) 
     match called {
         Ok(()) => {
             left.pack(words);
+            // 0, of what is done as of a Halt
             End::HALT
         }
         Err(why) => why.number(),
@@ -38,29 +39,32 @@ pub fn answer_value<P: Pack>(
     ensures kept { words.new ≡ kept (answer_by value called) (P.leaves left (unpacked words.old)) words.old }
     ensures answered { to.new ∷ [] ≡ answered (answer_by value called) (to.old ∷ []) }
 {
+    // not by `map`, in the call: what a closure leaves in what it changes is not known after it
     if let Ok(v) = called {
         *to = v;
     }
     answer(called.map(|_| ()), left, words)
 }
 
-// The same of a run: its pc and steps, and the number of its end.
+// The same of a run: pc and steps of how it ended, and the number of that.
 pub fn answer_run(
-    end: End,
+    called: Result<End, Refusal>,
     state: State,
     words: &mut Words,
     pc: &mut usize,
     steps: &mut Steps,
 ) -> u64
-    ensures number { result ≡ number_of (answer_of end) }
-    ensures kept { words.new ≡ kept (answer_of end) state words.old }
-    ensures answered { pc.new ∷ steps.new ∷ [] ≡ answered (answer_of end) (pc.old ∷ steps.old ∷ []) }
+    ensures number { result ≡ number_of (answer_by answer_of called) }
+    ensures kept { words.new ≡ kept (answer_by answer_of called) state words.old }
+    ensures answered { pc.new ∷ steps.new ∷ [] ≡ answered (answer_by answer_of called) (pc.old ∷ steps.old ∷ []) }
 {
-    if let End::Refused(why) = end {
-        return answer(Err(why), state, words);
+    match called {
+        Ok(end) => {
+            state.pack(words);
+            *pc = end.pc();
+            *steps = end.steps();
+            end.number()
+        }
+        Err(why) => why.number(),
     }
-    *pc = end.pc();
-    *steps = end.steps();
-    answer(Ok(()), state, words);
-    end.number()
 }

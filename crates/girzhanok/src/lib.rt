@@ -60,8 +60,8 @@ pub extern "C" fn girzhanok_run(
         return Refusal::SIZE;
     };
     let mut machine = unpack(words);
-    let end = run::run(&mut machine, budget, image, frames, heap);
-    answer_run(end, machine, words, pc, steps)
+    let called = run::run(&mut machine, budget, image, frames, heap);
+    answer_run(called, machine, words, pc, steps)
 }
 
 #[unsafe(no_mangle)]

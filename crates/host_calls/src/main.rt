@@ -56,10 +56,11 @@ fn print_done(rt: &impl Print, label: &str, called: Result<(), Refusal>) -> io::
     }
 }
 
-fn print_end(rt: &impl Print, label: &str, end: End) -> io::Result<()> {
-    if let End::Refused(why) = end {
-        return print_refused(rt, label, why);
-    }
+fn print_end(rt: &impl Print, label: &str, called: Result<End, Refusal>) -> io::Result<()> {
+    let end = match called {
+        Ok(end) => end,
+        Err(why) => return print_refused(rt, label, why),
+    };
     println!(rt;
         "{label}: end {:02x} at {:016x} after {:08x}",
         end.number(),
@@ -89,14 +90,14 @@ impl Machine {
         budget: Steps,
         image: &[u64],
     ) -> io::Result<()> {
-        let end = run::run(
+        let called = run::run(
             &mut self.state,
             budget,
             image,
             &mut self.lent.frames,
             &mut self.lent.heap,
         );
-        print_end(rt, label, end)
+        print_end(rt, label, called)
     }
 
     // A run of one word and a Halt.
@@ -199,14 +200,14 @@ fn refused_runs(rt: &impl Print, machine: &mut Machine) -> io::Result<()> {
     machine.state.depth = machine.lent.frames.len() + 1;
     machine.run(rt, "run at a depth above the frames", 1, &halt)?;
     machine.state.depth = depth;
-    let end = run::run(
+    let called = run::run(
         &mut machine.state,
         1,
         &halt,
         &mut machine.lent.frames,
         &mut [],
     );
-    print_end(rt, "run with no heap", end)?;
+    print_end(rt, "run with no heap", called)?;
     machine.run(rt, "run of code without a Halt", 1, &nop)?;
     machine.run_word(rt, "run of an opcode that is not carried", 42)?;
     machine.run_word(rt, "run of a word with register 32", 0x201a)?;

@@ -1,23 +1,19 @@
-// What is written of a run: the report, or the number of a refusal.
+// What is written of a run: its report.
 #![tactic(auto)]
 
 ghost use Rattle.std.specs.Prelude.{◌≡◌};
-ghost use Rattle.report.specs.Report.{written_of};
 ghost use Rattle.vm.specs.Told.{answer_of};
 ghost use Rattle.outcome.specs.Outcome.{run_text};
 
-use anomaly::{End, Refusal};
+use anomaly::End;
 use report::{Summary, Text, report_text};
 use vm::State;
 
-// The report of a run, or what it was refused by.
-#[tactic(auto, using(crate::proofs::Texts::run_reported), unfolding(vm::specs::Told::answer_of, crate::specs::Outcome::run_text))]
-pub fn run_text(end: End, state: &State) -> Result<Text, Refusal>
-    ensures { written_of result ≡ run_text (answer_of end) state.now }
+// The report of a run that was not refused.
+#[tactic(auto, using(crate::proofs::Texts::run_reported))]
+pub fn run_text(end: End, state: &State) -> Text
+    ensures { result.bytes ≡ run_text (answer_of end) state.now }
 {
-    if let End::Refused(why) = end {
-        return Err(why);
-    }
     let summary = Summary {
         end: end.number(),
         pc: end.pc(),
@@ -27,5 +23,5 @@ pub fn run_text(end: End, state: &State) -> Result<Text, Refusal>
         len: state.gc.len,
         strings: state.strings.len,
     };
-    Ok(report_text(&summary, &state.regs))
+    report_text(&summary, &state.regs)
 }

@@ -40,6 +40,6 @@ pub fn rate(
     let end = words[1] as usize;
     let globals = &mut words[first..end];
     image_names::intern_names(input, &mut state, globals, heap, slots, spare, name)?;
-    let end = run::run(&mut state, head.budget as Steps, words, frames, heap);
-    run_text(end, &state)
+    let end = run::run(&mut state, head.budget as Steps, words, frames, heap)?;
+    Ok(run_text(end, &state))
 }

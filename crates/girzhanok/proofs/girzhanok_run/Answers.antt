@@ -9,4 +9,4 @@ pub returns : goal.returns
 returns c =
     λ l.
     let told = c.answer_run.ensures in
-    served _ _ _ _ _ c.in-Some.ensures.cases _ c.unpack-machine.ensures _ (c.run-end.ensures l) _ _ _ told.number told.kept told.answered
+    served _ _ _ _ _ c.in-Some.ensures.cases _ c.unpack-machine.ensures _ (c.run-called.ensures l) _ _ _ told.number told.kept told.answered

@@ -3,6 +3,7 @@ use mathlib.Core.Path.{refl, ◌∙◌}
 use native.Mathlib.Omega.{arith}
 use Rattle.std.proofs.lemmas.Result.{err_from_is_err_and}
 use Rattle.vm.specs.Machine.{lend_frames, lend_slots, lend_spare, unlent}
+use Rattle.outcome.specs.Outcome.{run_text}
 use Rattle.image_words.proofs.Joins.{words_ordered, globals_of, image_with_lem}
 use Rattle.rating.proofs.Answers.{begun_as, started-refused, names-refused, names-ran, text_short}
 use Rattle.rating.proofs.rate.Goals as goal
@@ -40,9 +41,20 @@ returns-in_err-intern_names c =
     (names-refused _ _ _ _ _ _ (begun_as _ _ _ _ _ _ c.requires.words c.requires.lent c.in_ok-state.ensures) _ (globals_of _ c.requires.words) _ _ _
     (c.in_err-intern_names.ensures (lend_frames _ unlent)) _ refl)
 
+pub returns-in_err-end : goal.returns-in_err-end
+unfolding run_text
+returns-in_err-end c =
+    let why = err_from_is_err_and c.from_residual-in_err-end.result c.from_residual-in_err-end.ensures.1 in
+    rw (why.1, why.2)
+    (names-ran _ _ _ _ _ _ (begun_as _ _ _ _ _ _ c.requires.words c.requires.lent c.in_ok-state.ensures) _ (globals_of _ c.requires.words) _ _ _
+    (c.in_ok-intern_names.ensures (lend_frames _ unlent)) refl
+    _ (image_with_lem _ c.requires.words _ c.intern_names.auto.globals) _ refl _
+    (rw c.in_err-end.was at (c.run.ensures (lend_slots c.intern_names.new.slots (lend_spare c.intern_names.new.spare unlent)))))
+
 pub returns : goal.returns
 returns c =
     c.run_text.ensures
     ∙ names-ran _ _ _ _ _ _ (begun_as _ _ _ _ _ _ c.requires.words c.requires.lent c.in_ok-state.ensures) _ (globals_of _ c.requires.words) _ _ _
     (c.in_ok-intern_names.ensures (lend_frames _ unlent)) refl
-    _ (image_with_lem _ c.requires.words _ c.intern_names.auto.globals) _ refl _ (c.run-end.ensures (lend_slots _ (lend_spare _ unlent)))
+    _ (image_with_lem _ c.requires.words _ c.intern_names.auto.globals) _ refl _
+    (rw c.in_ok-end.was at (c.run.ensures (lend_slots c.intern_names.new.slots (lend_spare c.intern_names.new.spare unlent))))
