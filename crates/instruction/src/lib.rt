@@ -54,15 +54,15 @@ fn reach(heap: &Heap, base: u64, offset: u64) -> Option<usize>
     Some(at as usize)
 }
 
-fn set(pc: usize, dst: Reg, value: u64, regs: &mut [u64; 32]) -> Turn
-    requires { pc + 1 < 2 ^ 64 }
-    ensures turned { (s : State) (frames : Frames) (heap : Heap) (l : Lent)
+fn set(next: usize, dst: Reg, value: u64, regs: &mut [u64; 32]) -> Turn
+    ensures turned { (s : State) (pc : ℕ) (frames : Frames) (heap : Heap) (l : Lent)
+        → next ≡ pc + 1
         → turn_of s pc regs.new frames heap l result
         ≡ turn (Effect.Set dst value) (machine_in s pc regs.old frames heap l) }
     ensures listed { IsListed result }
 {
     dst.write(regs, value);
-    Turn::Next(pc + 1)
+    Turn::Next(next)
 }
 
 fn call(pc: usize, func: usize, frames: &mut Frames) -> Turn
@@ -92,9 +92,9 @@ fn ret(pc: usize, frames: &mut Frames) -> Turn
     Turn::Next(place.wrapping_add(1) as usize)
 }
 
-fn load(pc: usize, dst: Reg, base: u64, offset: u64, regs: &mut [u64; 32], heap: &Heap) -> Turn
-    requires { pc + 1 < 2 ^ 64 }
-    ensures turned { (s : State) (frames : Frames) (l : Lent)
+fn load(next: usize, dst: Reg, base: u64, offset: u64, regs: &mut [u64; 32], heap: &Heap) -> Turn
+    ensures turned { (s : State) (pc : ℕ) (frames : Frames) (l : Lent)
+        → next ≡ pc + 1
         → turn_of s pc regs.new frames heap.now l result
         ≡ turn (Effect.Load dst base offset) (machine_in s pc regs.old frames heap.now l) }
     ensures listed { IsListed result }
@@ -103,13 +103,13 @@ fn load(pc: usize, dst: Reg, base: u64, offset: u64, regs: &mut [u64; 32], heap:
         return stopped(Anomaly::BadAddress);
     };
     dst.write(regs, memory::load::<8>(heap.bytes, i));
-    Turn::Next(pc + 1)
+    Turn::Next(next)
 }
 
-fn store(pc: usize, base: u64, offset: u64, value: u64, heap: &mut Heap) -> Turn
-    requires { pc + 1 < 2 ^ 64 }
+fn store(next: usize, base: u64, offset: u64, value: u64, heap: &mut Heap) -> Turn
     ensures same_heap { heap.new.bytes.ghost_name ≡ heap.old.bytes.ghost_name }
-    ensures turned { (s : State) (regs : List ℕ) (frames : Frames) (l : Lent)
+    ensures turned { (s : State) (pc : ℕ) (regs : List ℕ) (frames : Frames) (l : Lent)
+        → next ≡ pc + 1
         → turn_of s pc regs frames heap.new l result
         ≡ turn (Effect.Store base offset value) (machine_in s pc regs frames heap.old l) }
     ensures listed { IsListed result }
@@ -118,20 +118,20 @@ fn store(pc: usize, base: u64, offset: u64, value: u64, heap: &mut Heap) -> Turn
         return stopped(Anomaly::BadAddress);
     };
     memory::store::<8>(heap.bytes, i, value);
-    Turn::Next(pc + 1)
+    Turn::Next(next)
 }
 
 fn alloc(
-    pc: usize,
+    next: usize,
     dst: Reg,
     kind: AllocType,
     size: u64,
     regs: &mut [u64; 32],
     heap: &mut Heap,
 ) -> Turn
-    requires { pc + 1 < 2 ^ 64 }
     ensures same_heap { heap.new.bytes.ghost_name ≡ heap.old.bytes.ghost_name }
-    ensures turned { (s : State) (frames : Frames) (l : Lent)
+    ensures turned { (s : State) (pc : ℕ) (frames : Frames) (l : Lent)
+        → next ≡ pc + 1
         → turn_of s pc regs.new frames heap.new l result
         ≡ turn (Effect.Alloc kind dst size) (machine_in s pc regs.old frames heap.old l) }
     ensures listed { IsListed result }
@@ -140,7 +140,7 @@ fn alloc(
         return stopped(Anomaly::AllocationFailed);
     };
     dst.write(regs, address);
-    Turn::Next(pc + 1)
+    Turn::Next(next)
 }
 
 pub fn apply(
@@ -158,20 +158,21 @@ pub fn apply(
         ≡ turn effect (machine_in s pc regs.old frames.old heap.old l) }
     ensures listed { EndsListed effect → IsListed result }
 {
+    let next = pc + 1;
     // a closed set, as in `meaning`; lent, since a match that moves a register out of an effect gets no proof
     match &effect {
-        Effect::Set { dst, value } => set(pc, *dst, *value, regs),
-        Effect::Skip => Turn::Next(pc + 1),
+        Effect::Set { dst, value } => set(next, *dst, *value, regs),
+        Effect::Skip => Turn::Next(next),
         Effect::Goto { target } => Turn::Next(*target),
         Effect::Call { func } => call(pc, *func, frames),
         Effect::Ret => ret(pc, frames),
-        Effect::Load { dst, base, offset } => load(pc, *dst, *base, *offset, regs, heap),
+        Effect::Load { dst, base, offset } => load(next, *dst, *base, *offset, regs, heap),
         Effect::Store {
             base,
             offset,
             value,
-        } => store(pc, *base, *offset, *value, heap),
-        Effect::Alloc { kind, dst, size } => alloc(pc, *dst, *kind, *size, regs, heap),
+        } => store(next, *base, *offset, *value, heap),
+        Effect::Alloc { kind, dst, size } => alloc(next, *dst, *kind, *size, regs, heap),
         Effect::Stop(why) => Turn::Stop(*why),
         Effect::Halt => Turn::Halt,
     }

@@ -6,12 +6,12 @@ use Rattle.instruction.proofs.alloc.Goals as goal
 
 pub returns-in_default-clause-turned : goal.returns-in_default-clause-turned
 returns-in_default-clause-turned c =
-    λ s f l. rw c.stopped.ensures
-    (sym (turn_no_block s _ _ (lend_in f c.args.heap.now l) (fitting _ f c.args.heap.now l) _ _ _ _ _ _
+    λ s pc f l e. rw c.stopped.ensures
+    (sym (turn_no_block s _ _ (lend_in f c.args.heap.now l) (fitting pc f c.args.heap.now l) _ _ _ _ _ _
     (rw (c.new.ensures.0, c.new.ensures.1) at c.alloc.ensures.outcome) c.in_default.is))
 
 pub returns-clause-turned : goal.returns-clause-turned
 returns-clause-turned c =
-    λ s f l. rw c.write.ensures (sym
-    (turn-block s _ _ (lend_in f c.args.heap.now l) (fitting _ f c.args.heap.now l) _ _ _ _ _ _
+    λ s pc f l e. rw (c.write.ensures, e) (sym
+    (turn-block s _ _ (lend_in f c.args.heap.now l) (fitting pc f c.args.heap.now l) _ _ _ _ _ _
     (rw (c.new.ensures.0, c.new.ensures.1) at c.alloc.ensures.outcome) _ c.in-Some.is))

@@ -1,11 +1,11 @@
 -- `instruction::apply` meets its contract. Assumes nothing.
-use Rattle.std.proofs.Common.{sym}
+use Rattle.std.proofs.Common.{refl, sym}
 use Rattle.instruction.specs.Turn.{lend_in}
 use Rattle.instruction.proofs.Turns.{fitting, turn_skip, turn_goto, turn-stop, turn-halt}
 use Rattle.instruction.proofs.apply.Goals as goal
 
 pub returns-in-Set-clause-turned : goal.returns-in-Set-clause-turned
-returns-in-Set-clause-turned c = λ s l. rw c.in-Set.is (c.set.ensures.turned s c.args.frames.now c.args.heap.now l)
+returns-in-Set-clause-turned c = λ s l. rw c.in-Set.is (c.set.ensures.turned s _ c.args.frames.now c.args.heap.now l refl)
 
 pub returns-in-Skip-clause-turned : goal.returns-in-Skip-clause-turned
 returns-in-Skip-clause-turned c =
@@ -22,13 +22,13 @@ pub returns-in-Ret-clause-turned : goal.returns-in-Ret-clause-turned
 returns-in-Ret-clause-turned c = λ s l. rw c.in-Ret.is (c.ret.ensures.turned s _ c.args.heap.now l)
 
 pub returns-in-Load-clause-turned : goal.returns-in-Load-clause-turned
-returns-in-Load-clause-turned c = λ s l. rw c.in-Load.is (c.load.ensures.turned s c.args.frames.now l)
+returns-in-Load-clause-turned c = λ s l. rw c.in-Load.is (c.load.ensures.turned s _ c.args.frames.now l refl)
 
 pub returns-in-Store-clause-turned : goal.returns-in-Store-clause-turned
-returns-in-Store-clause-turned c = λ s l. rw c.in-Store.is (c.store.ensures.turned s _ c.args.frames.now l)
+returns-in-Store-clause-turned c = λ s l. rw c.in-Store.is (c.store.ensures.turned s _ _ c.args.frames.now l refl)
 
 pub returns-in-Alloc-clause-turned : goal.returns-in-Alloc-clause-turned
-returns-in-Alloc-clause-turned c = λ s l. rw c.in-Alloc.is (c.alloc.ensures.turned s c.args.frames.now l)
+returns-in-Alloc-clause-turned c = λ s l. rw c.in-Alloc.is (c.alloc.ensures.turned s _ c.args.frames.now l refl)
 
 pub returns-in-Stop-clause-turned : goal.returns-in-Stop-clause-turned
 returns-in-Stop-clause-turned c =

@@ -6,8 +6,8 @@ use Rattle.instruction.proofs.load.Goals as goal
 
 pub returns-in_default-clause-turned : goal.returns-in_default-clause-turned
 returns-in_default-clause-turned c =
-    λ s f l. rw c.stopped.ensures
-    (sym (turn_load_outside s _ _ (lend_in f c.args.heap.now l) (fitting _ f c.args.heap.now l) _ _ (sym c.reach.ensures ∙ c.in_default.is) _))
+    λ s pc f l e. rw c.stopped.ensures
+    (sym (turn_load_outside s _ _ (lend_in f c.args.heap.now l) (fitting pc f c.args.heap.now l) _ _ (sym c.reach.ensures ∙ c.in_default.is) _))
 
 pub load-requires : goal.load-requires
 load-requires c =
@@ -16,5 +16,5 @@ load-requires c =
 
 pub returns-clause-turned : goal.returns-clause-turned
 returns-clause-turned c =
-    λ s f l. rw (c.write.ensures, c.load.ensures.value)
-    (sym (turn_load s _ _ (lend_in f c.args.heap.now l) (fitting _ f c.args.heap.now l) _ _ _ (sym c.reach.ensures ∙ c.in-Some.is) _))
+    λ s pc f l e. rw (c.write.ensures, c.load.ensures.value, e)
+    (sym (turn_load s _ _ (lend_in f c.args.heap.now l) (fitting pc f c.args.heap.now l) _ _ _ (sym c.reach.ensures ∙ c.in-Some.is) _))

@@ -5,4 +5,4 @@ use Rattle.instruction.proofs.Turns.{fitting, turn-set}
 use Rattle.instruction.proofs.set.Goals as goal
 
 pub returns-clause-turned : goal.returns-clause-turned
-returns-clause-turned c = λ s f h l. rw c.write.ensures (sym (turn-set s _ _ (lend_in f h l) (fitting _ f h l) _ _))
+returns-clause-turned c = λ s pc f h l e. rw (c.write.ensures, e) (sym (turn-set s _ _ (lend_in f h l) (fitting pc f h l) _ _))

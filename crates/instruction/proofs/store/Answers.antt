@@ -6,8 +6,8 @@ use Rattle.instruction.proofs.store.Goals as goal
 
 pub returns-in_default-clause-turned : goal.returns-in_default-clause-turned
 returns-in_default-clause-turned c =
-    λ s regs f l. rw c.stopped.ensures
-    (sym (turn_store_outside s _ regs (lend_in f c.args.heap.now l) (fitting _ f c.args.heap.now l) _ _ (sym c.reach.ensures ∙ c.in_default.is) _))
+    λ s pc regs f l e. rw c.stopped.ensures
+    (sym (turn_store_outside s _ regs (lend_in f c.args.heap.now l) (fitting pc f c.args.heap.now l) _ _ (sym c.reach.ensures ∙ c.in_default.is) _))
 
 pub store-requires : goal.store-requires
 store-requires c =
@@ -16,5 +16,5 @@ store-requires c =
 
 pub returns-clause-turned : goal.returns-clause-turned
 returns-clause-turned c =
-    λ s regs f l. rw c.store.ensures
-    (sym (turn_store s _ regs (lend_in f c.args.heap.now l) (fitting _ f c.args.heap.now l) _ _ _ (sym c.reach.ensures ∙ c.in-Some.is) _))
+    λ s pc regs f l e. rw (c.store.ensures, e)
+    (sym (turn_store s _ regs (lend_in f c.args.heap.now l) (fitting pc f c.args.heap.now l) _ _ _ (sym c.reach.ensures ∙ c.in-Some.is) _))
