@@ -97,8 +97,8 @@ pub struct Gc {
 }
 
 impl Gc {
-    // Whether the numbers can belong to pages in a heap of `lent` bytes: refusal 9. `&` in place of `&&`: a chain of `&&` was tried, and
-    // leaves goals behind each of its joins.
+    // Whether the numbers can belong to pages in a heap of `lent` bytes: refusal 9. `&` and not `&&`: of a chain of `&&` the proof did not
+    // close.
     pub fn sound(self, lent: usize) -> bool
         ensures { result ≡ sound_of self lent }
     {
@@ -111,7 +111,8 @@ impl Gc {
     }
 }
 
-// A heap that is lent: its numbers, and the bytes in which its pages lie.
+// A heap that is lent: its numbers, and the bytes in which its pages lie. What is lent a heap to change says that the bytes are still those
+// (`same_reference`): by that its caller knows what its own slice holds.
 #[derive(Drop)]
 pub struct Heap<'a> {
     pub gc: Gc,

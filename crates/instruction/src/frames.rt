@@ -11,7 +11,7 @@ pub struct Frames<'a> {
 }
 
 impl Frames<'_> {
-    // One more in use, that holds this place; or all are in use.
+    // One more in use, that holds this place; false where all are in use.
     pub fn push(&mut self, place: u64) -> bool
         ensures same_reference { self.new.places.ghost_name ≡ self.old.places.ghost_name }
         ensures full { result ≡ false

@@ -229,6 +229,7 @@ fn effect_of(op: Op, regs: &[u64; 32], image: &Image) -> Effect
 pub fn word_effect(w: u64, regs: &[u64; 32], image: &Image) -> Effect
     ensures { result ≡ word_effect image.now regs.now (decode_of w) }
 {
+    // by `let .. else`, and no `?`: document 01, 'each decoded or refused before use'
     let decoded = decoder::decode(w);
     let Ok(op) = decoded else {
         return Effect::Stop(Stop::Refused(decoded.unwrap_err()));

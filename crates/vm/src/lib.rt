@@ -32,7 +32,7 @@ pub struct State {
 // What `reset` gives pc and frame 0, and a start frame 0.
 const UNSET: u64 = u64::MAX;
 
-// An Option of two words, a tag and a value.
+// An Option of two words, a tag and a value, as they lie in the heap: [1, v], and [0, 0] of none.
 fn boxed(heap: &mut Heap, tag: u64, value: u64) -> Option<u64>
     ensures same_reference { heap.new.bytes.ghost_name ≡ heap.old.bytes.ghost_name }
     ensures outcome { outcome result heap.new.gc heap.new.bytes.now

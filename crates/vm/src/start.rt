@@ -38,6 +38,7 @@ fn begin(base: u64, frames: &mut [u64], heap: &mut [u8]) -> State
     ensures { (l : Lent)
         → machine_of result (lend_begin frames.new heap.new l) ≡ begin base (lend_begin frames.old heap.old l) }
 {
+    // new, and no copy of another
     let mut state = blank(base);
     let mut pages = Heap {
         gc: state.gc,
