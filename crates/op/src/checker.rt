@@ -94,17 +94,13 @@ fn mask(opcode: usize) -> u64
 fn aligned(align: usize) -> Result<(), Refusal>
     ensures { result ≡ checked_of (is_alignment align) tt }
 {
-    if is_alignment(align) {
-        Ok(())
-    } else {
-        Err(Refusal::Operand)
-    }
+    is_alignment(align).then_some(()).ok_or(Refusal::Operand)
 }
 
 fn inside(at: usize, count: usize, refusal: Refusal) -> Result<(), Refusal>
     ensures { result ≡ inside_of at count refusal }
 {
-    if at < count { Ok(()) } else { Err(refusal) }
+    (at < count).then_some(()).ok_or(refusal)
 }
 
 // What its mask leaves of a word: an alignment, or whether what it names is below its count. The opcodes are a closed set: a table of

@@ -1,4 +1,4 @@
-// The operands of a word, by the shapes in the picture at the head of the crate; or 13, of a word that has a bit of its shape's mask.
+// The operands of a word, by the shapes in the picture at the head of the crate; or `Operand` (13), where a bit of its shape's mask is set.
 // Each is for the loop of a run, and the compiler puts it into the arm that asks for it.
 ghost use Rattle.std.specs.Prelude.{◌≡◌, ◌<◌};
 ghost use Rattle.op.specs.Layout.{parts_of, passes, keys_of, kind_of};

@@ -34,7 +34,7 @@ pub mod word;
 
 pub use checker::check;
 use gc::AllocType;
-pub use register::{REGISTER_COUNT, Reg};
+pub use register::{NoRegister, REGISTER_COUNT, Reg};
 pub use word::is_alignment;
 
 // The opcodes from 0 on, with those that are not carried.

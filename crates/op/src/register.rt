@@ -1,11 +1,12 @@
 // The number of a register, which is below 32: a word with a larger one is refused.
 ghost use Rattle.std.specs.Prelude.{◌≡◌, ◌<◌, slice_index, slice_set};
+ghost use Rattle.op.specs.Registers.{IsRegisterOf};
 
 use std::marker::Model;
 
 pub const REGISTER_COUNT: usize = 32;
 
-// A byte, as in a word: with a number of 8 bytes a step of the loop took up to 4 instructions more, and about a fifth longer.
+// A byte, as in a word: with a number of 8 bytes a step of the loop took up to 4 instructions more, and about a fifth more time.
 #[derive(Clone, Copy, Debug, PartialEq, Eq)]
 pub struct Reg {
     number: u8,
@@ -23,6 +24,24 @@ impl Model for Reg {
     ghost inverse = { λ n. record { number = n } };
 }
 
+// A number that no register has.
+#[derive(Clone, Copy, Debug, PartialEq, Eq)]
+pub struct NoRegister(pub usize);
+
+impl TryFrom<usize> for Reg {
+    type Error = NoRegister;
+
+    ghost try_from_gives = { IsRegisterOf };
+
+    fn try_from(n: usize) -> Result<Self, NoRegister> {
+        if n < REGISTER_COUNT {
+            Ok(Reg::new(n))
+        } else {
+            Err(NoRegister(n))
+        }
+    }
+}
+
 impl Reg {
     pub(crate) fn new(number: usize) -> Reg
         requires { number < 32 }
@@ -33,15 +52,21 @@ impl Reg {
         }
     }
 
+    pub fn number(self) -> usize
+        ensures { result ≡ self }
+    {
+        usize::from(self.number)
+    }
+
     pub fn read(self, regs: &[u64; 32]) -> u64
         ensures { result ≡ slice_index regs.now self }
     {
-        regs[usize::from(self.number)]
+        regs[self.number()]
     }
 
     pub fn write(self, regs: &mut [u64; 32], value: u64)
         ensures { regs.new ≡ slice_set regs.old self value }
     {
-        regs[usize::from(self.number)] = value;
+        regs[self.number()] = value;
     }
 }

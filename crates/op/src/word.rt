@@ -52,10 +52,7 @@ pub fn bytes<const FROM: u32, const COUNT: u32>(w: u64) -> usize
 pub fn upper_signed(w: u64) -> u64
     ensures { result ≡ (parts_of w).signed }
 {
-    std::num::wrapping_sub_u64(
-        (w / 0x1_0000_0000 + 0x8000_0000) % 0x1_0000_0000,
-        0x8000_0000,
-    )
+    (w.cast_signed() >> 32).cast_unsigned()
 }
 
 pub fn is_alignment(n: usize) -> bool
