@@ -40,9 +40,8 @@ fn store<N: Name>(heap: &mut Heap, name: N, hash: u32) -> Option<u64>
     Some(address)
 }
 
-// What an interning is lent stands as three parameters, heap, slots and spare. One struct of the three `&mut` was tried. Lent itself, it gets no
-// proof: two of its fields cannot be lent at once, and what they hold after `check` is not known. By value, `fresh` and `known` were proved, and
-// each took it apart and put it together again.
+// Heap, slots and spare stand as slices one by one: of one struct of the three, `known` and `intern` get no proof, or take it apart and
+// put it together again.
 impl Names {
     // Of 9: the table, in the slots lent.
     fn names_belong(self, slots: &[u64]) -> Result<(), Refusal>

@@ -15,8 +15,7 @@ use value::Value;
 
 const EMPTY: u64 = Value::UNDEF.0;
 
-// What probing comes to. An enum of its own: the definitions of placing go by the place in `Vacant`, which no Option or Result of
-// the value that is looked for has.
+// What probing comes to. An enum of its own, since `Result<u64, Option<usize>>` says no plainer which place is the first empty one.
 #[derive(Clone, Copy)]
 pub enum Probe {
     // The value that is looked for.
@@ -27,7 +26,8 @@ pub enum Probe {
     Full,
 }
 
-// From the hash's own slot on: the first value that `hit` is true of, or the first empty slot before it.
+// From the hash's own slot on: the first value that `hit` is true of, or the first empty slot before it. The place is stepped beside
+// the `for`: probing goes round the end of the table, and two slices chained would say no plainer where `Vacant` lies.
 fn look_up<F: Fn(u64) -> bool>(slots: &[u64], hash: u32, hit: F) -> Probe
     requires { F.IsAlwaysCallable hit }
     ensures inside { (i : ℕ) → result ≡ Probe.Vacant i → i < length slots.now }
@@ -53,11 +53,18 @@ fn look_up<F: Fn(u64) -> bool>(slots: &[u64], hash: u32, hit: F) -> Probe
     Probe::Full
 }
 
+// What probing for a name comes to among the active slots. `hash` is its hash.
+pub fn probe_for<N: Name>(heap: Pushed, slots: &[u64], name: N, hash: u32) -> Probe
+    ensures { result ≡ lookup (holds heap.entry.base heap.entry.bytes.now (N.bytes name) hash) slots.now hash }
+{
+    look_up(slots, hash, |v| heap.is_string(name, hash, v))
+}
+
 // The value of a name among the active slots. `hash` is its hash.
 pub fn get<N: Name>(heap: Pushed, slots: &[u64], name: N, hash: u32) -> Option<u64>
     ensures { result ≡ found_value (lookup (holds heap.entry.base heap.entry.bytes.now (N.bytes name) hash) slots.now hash) }
 {
-    match look_up(slots, hash, |v| heap.is_string(name, hash, v)) {
+    match probe_for(heap, slots, name, hash) {
         Probe::Found(v) => Some(v),
         Probe::Vacant(_) | Probe::Full => None,
     }
@@ -94,7 +101,8 @@ fn place_all(heap: Pushed, old: &[u64], slots: &mut [u64])
     }
 }
 
-// From `active` slots to `room`: the old ones go to the spare slice, and from there into the new.
+// From `active` slots to `room`: the old ones go to the spare slice, and from there into the new. Slots and spare are two slices, with
+// their lengths in the contract here and at `make_room`, as they are lent: `impl Names` in `names` says why.
 fn rehash(heap: Pushed, active: usize, room: usize, slots: &mut [u64], spare: &mut [u64])
     requires { (active ≤ room) × (room ≤ length slots.old) × (active ≤ length spare.old) }
     ensures slots_after { slots.new
