@@ -33,6 +33,7 @@ pub fn copy<T: Copy>(from: &[T], to: &mut [T])
     requires { length from.now ≤ length to.old }
     ensures { to.new ≡ over from.now to.old }
 {
+    // by index: of what is written through `iter_mut` a proof knows the length alone
     for (i, x) in from.iter().enumerate() {
         to[i] = *x;
     }

@@ -45,6 +45,7 @@ fn digit(v: u64) -> char
 }
 
 // The lowest `count` digits of `v`. Not by a `Display`: no clause of std says that `write!` to a text with room is `Ok`, and `answer` cannot fail.
+// Here and below each function asks for room for what it pushes: `push` asks for a place, and one sum for all would say less.
 fn put_hex(out: &mut Text, count: usize, v: u64)
     requires digits { count ≤ 16 }
     requires room { array_string_len out.old + count ≤ longest }
@@ -119,13 +120,20 @@ pub fn report_text(s: &Summary, regs: &[u64; REGISTERS]) -> Text
     text
 }
 
-// The number of a refusal alone.
+// A number alone, as of a refusal: the lowest two digits of it.
 #[tactic(auto, unfolding(crate::specs::Report::refusal_of))]
+pub fn number_text(number: u64) -> Text
+    ensures { result.bytes ≡ refusal_of number }
+{
+    let mut text = Text::new();
+    put_hex(&mut text, 2, number);
+    text.push('\n');
+    text
+}
+
+// The number of a refusal alone.
 pub fn refusal_text(why: Refusal) -> Text
     ensures { result.bytes ≡ refusal_of (number_of_refusal why) }
 {
-    let mut text = Text::new();
-    put_hex(&mut text, 2, why.number());
-    text.push('\n');
-    text
+    number_text(why.number())
 }

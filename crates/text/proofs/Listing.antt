@@ -51,7 +51,7 @@ module _ (g t v t' v' : ℕ) (l : List ℕ) (rest : List ℕ) (later : List Name
   name_fits n false five all = all
 
 -- the names of lines that g globals stand before
-names_fit : (g t v : ℕ) (lines : List (List ℕ)) → AllFit (g + length (section_of Globals t v lines)) (size lines) (names_of g lines)
+pub names_fit : (g t v : ℕ) (lines : List (List ℕ)) → AllFit (g + length (section_of Globals t v lines)) (size lines) (names_of g lines)
 unfolding names_of section_of size
 names_fit g t v [] = tt
 names_fit g t v (l ∷ more) =

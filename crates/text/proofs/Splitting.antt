@@ -3,14 +3,13 @@ use Prim.Native.Nat.{ℕ, suc, ◌+◌, ◌-◌, ◌<◌, ◌≤◌}
 use mathlib.Core.Path.{◌≡◌, refl, ◌∙◌}
 use mathlib.Core.Bool.{Bool, true, false, not, cond, ◌&&◌}
 use mathlib.Core.List.{List, [], ◌∷◌}
-use lib.ListN.{length, take, drop, length-drop}
+use lib.ListN.{length, take, drop}
 use lib.Dec.{eqb, ltb}
 use native.Mathlib.Nat.{not-suc-le-zero}
 use native.Mathlib.Omega.{arith}
 use borrow.Author.Tests.{le-leb, lt-leb, ltb-true, ltb-false}
 use Rattle.std.proofs.Common.{Option, None, Some}
 use Rattle.std.proofs.lemmas.Bool.Decides.{nat_tests}
-use Rattle.std.proofs.lemmas.List.{take_all}
 use Rattle.std.specs.List.{position_or_len}
 use Rattle.std.specs.Option.{SomeIff}
 use Rattle.text.specs.Digits.{all_digits}
@@ -66,21 +65,12 @@ feed_found s r e = by (ltb (up_to s) (length s)) refl (rw position-is at e)
     by true t e = let z : r ≡ Some (up_to s) = e ∙ rw t in rw z (ltb-true (up_to s) (length s) t, refl)
     by false t e = let z : r ≡ None = e ∙ rw t in rw z (λ h. let k = ltb-false (up_to s) (length s) t in omega arith)
 
--- ---- the text from a place on, as it is cut off
+-- ---- the lines of a text, as it is split at the first line feed
 
-pub tail-is : (s : List ℕ) (a : ℕ) → take (length s - a) (drop a s) ≡ drop a s
-tail-is s a = take_all (length s - a) (drop a s) (rw length-drop (omega arith))
-
-module _ (s : List ℕ) {r : Option ℕ} (found : SomeIff r (up_to s < length s) (up_to s)) where
-  pub lines-none : r ≡ None → lines_in s ≡ []
-  lines-none e = let past : (up_to s < length s → ⊥) = rw e at found in no_line s (omega arith)
-
-  pub lines_some : {end : ℕ} → r ≡ Some end → lines_in s ≡ take end s ∷ lines_in (take (length s - (end + 1)) (drop (end + 1) s))
-  unfolding whole
-  lines_some {end} e =
-      let here : (up_to s < length s) × (end ≡ up_to s) = rw e at found in
-      let next : suc (up_to s) ≡ end + 1 = omega (arith, here.1) in
-      rw (first_line s here.0, next, tail-is s (end + 1), here.1)
+pub line_split : (s : List ℕ) {l rest : List ℕ} → (up_to s < length s) × (l ≡ take (up_to s) s) × (rest ≡ drop (suc (up_to s)) s)
+    → lines_in s ≡ l ∷ lines_in rest
+unfolding whole
+line_split s (here, first, behind) = rw (first_line s here, first, behind)
 
 -- ---- a line of an unknown kind
 

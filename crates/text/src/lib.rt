@@ -1,6 +1,7 @@
 // The text of an image: lines of lower-case hexadecimal digits, each a kind of two digits and a
 // payload. `read` refuses a text or gives its header; `gather` lays one section over a buffer;
 // `Names` goes over the names. These two take any bytes, and are of use for a text that is not refused.
+// `Lines` goes over the lines of any bytes, and `split_line` parts them at the first line feed.
 #![tactic(auto)]
 
 ghost use Rattle.std.specs.Prelude.{◌≡◌};
@@ -14,7 +15,8 @@ pub mod sections;
 
 use anomaly::Refusal;
 pub use digits::{all_digits, number};
-use lines::{Lines, is_header, is_other, payload_of};
+pub use lines::{Lines, split_line};
+use lines::{is_header, is_other, payload_of};
 
 // The longest text.
 pub const MAX_LEN: usize = 65536;

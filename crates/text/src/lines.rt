@@ -1,5 +1,5 @@
 // Lines, their kinds and payloads.
-ghost use Rattle.std.specs.Prelude.{◌≡◌, ◌<◌, ◌==◌, length, SomeIff, MatchOption};
+ghost use Rattle.std.specs.Prelude.{suc, ◌≡◌, ◌<◌, ◌≤◌, ◌==◌, length, take, drop, SomeIff, MatchOption};
 ghost use Rattle.std.specs.Iterator.{YieldsFirstRef, item_count};
 ghost use Rattle.text.specs.Kinds.{number_of_kind, OfNumber};
 ghost use Rattle.text.specs.Lines.{lines_in, up_to, kind_of, payload_of, count_ok, line_ok};
@@ -106,6 +106,15 @@ fn line_feed(s: &[u8]) -> Option<usize>
     s.iter().position(|&c| c == b'\n')
 }
 
+// What stands before the first line feed, and what stands behind it.
+pub fn split_line(s: &[u8]) -> Option<(&[u8], &[u8])>
+    ensures { MatchOption result (length s.now ≤ up_to s.now) (λ parts. (up_to s.now < length s.now)
+        × (parts.0.now ≡ take (up_to s.now) s.now) × (parts.1.now ≡ drop (suc (up_to s.now)) s.now)) }
+{
+    let end = line_feed(s)?;
+    Some((&s[..end], &s[end + 1..]))
+}
+
 // The lines of a text. What no line feed ends is none of them.
 #[derive(Drop)]
 pub struct Lines<'a>(pub &'a [u8]);
@@ -118,9 +127,8 @@ impl<'a> Iterator for Lines<'a> {
     ghost remaining = { item_count (λ left. lines_in left.0.now) };
 
     fn next(&mut self) -> Option<&'a [u8]> {
-        let text = self.0;
-        let end = line_feed(text)?;
-        self.0 = &text[end + 1..];
-        Some(&text[..end])
+        let (line, rest) = split_line(self.0)?;
+        self.0 = rest;
+        Some(line)
     }
 }

@@ -101,7 +101,7 @@ impl<'a> Numbers<'a> {
         requires { at + length (numbers_left self) < 2 ^ 64 }
         ensures { Written buf.old at (numbers_left self.entry) buf.new result }
     {
-        // counted beside the `for`: the place goes on from line to line, past the buffer's end too
+        // counted beside the `for`: the place behind them is answered, past the buffer's end too, and `(at..).zip(self)` does not tell it
         let mut n = at;
         for number in self {
             put_at(buf, n, number);

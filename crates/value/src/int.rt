@@ -1,4 +1,4 @@
-// Arithmetic on two registers as signed integers. Sums and differences modulo 2^64 are the same for
+// Arithmetic on two registers as signed integers. Sums, differences and products modulo 2^64 are the same for
 // signed and unsigned ones, and the number types have them.
 ghost use Rattle.std.specs.Prelude.{◌≡◌, ◌*◌, ◌%◌, ◌^◌, bit_and, int_lt};
 ghost use Rattle.value.specs.Int.{signed, overflows, operands_of, quotient_of, remainder_of};
@@ -12,7 +12,7 @@ pub enum DivisionError {
     Overflow,
 }
 
-// The low 64 bits of a * b.
+// The low 64 bits of a * b: the number type's, under the name that both hashes and the machine's product call.
 pub fn wrapping_mul(a: u64, b: u64) -> u64
     ensures { result ≡ (a * b) % 2 ^ 64 }
 {

@@ -1,7 +1,7 @@
 // The records of a list of vectors.
 ghost use Rattle.std.specs.Prelude.{◌<◌, ◌≤◌, length, IfSome};
 
-use text::{all_digits, number};
+use text::{all_digits, number, split_line};
 
 // Where a case's line has the two lengths and the name, and how many digits the lengths have.
 const IMAGE_AT: usize = 9;
@@ -33,14 +33,6 @@ pub struct Case<'a> {
 pub enum Record<'a> {
     Subject(&'a [u8]),
     Case(Case<'a>),
-}
-
-// What lies before and behind a line feed.
-fn split_line(all: &[u8]) -> Option<(&[u8], &[u8])>
-    ensures { IfSome result (λ parts. length parts.1.now < length all.now) }
-{
-    let end = all.iter().position(|&byte| byte == b'\n')?;
-    Some((&all[..end], &all[end + 1..]))
 }
 
 // A length in hexadecimal digits.
