@@ -1,14 +1,14 @@
 // Whether an image may hold a word. This is for every word of an image, before a run: it goes by a table of masks, and leaves
 // `decode` (`decoder`) to the loop of the run.
 ghost use Rattle.std.specs.Prelude.{◌≡◌, ◌%◌};
-ghost use Rattle.op.specs.Layout.{parts_of, is_alignment};
-ghost use Rattle.op.specs.Decode.{row_of, checked_of};
+ghost use Rattle.op.specs.Layout.{parts_of};
+ghost use Rattle.op.specs.Decode.{row_of};
 ghost use Rattle.op.specs.Masks.{mask_of_row, rest_of};
 ghost use Rattle.op.specs.Reach.{check_of, inside_of};
 
 use crate::word::{
     ALLOC, BARE, CONDITION, FUNCTION, JUMP, JUMP_IF, JUMP_IMMEDIATE, JUMP_TWO, LOOKUP,
-    ONE_AND_NUMBER, SWITCH, THREE, TWO, TWO_AND_NUMBER, bytes, fits, is_alignment,
+    ONE_AND_NUMBER, SWITCH, THREE, TWO, TWO_AND_NUMBER, bytes, checked, fits, is_alignment,
 };
 use crate::{Counts, OPCODES};
 use anomaly::Refusal;
@@ -91,12 +91,6 @@ fn mask(opcode: usize) -> u64
     }
 }
 
-fn aligned(align: usize) -> Result<(), Refusal>
-    ensures { result ≡ checked_of (is_alignment align) tt }
-{
-    is_alignment(align).then_some(()).ok_or(Refusal::Operand)
-}
-
 fn inside(at: usize, count: usize, refusal: Refusal) -> Result<(), Refusal>
     ensures { result ≡ inside_of at count refusal }
 {
@@ -122,7 +116,7 @@ fn rest(w: u64, n: Counts) -> Result<(), Refusal>
         // Tail, Call
         38..=39 => inside(bytes::<4, 4>(w), n.code, Refusal::Target),
         // Alloc
-        53 => aligned(bytes::<3, 1>(w)),
+        53 => checked(is_alignment(bytes::<3, 1>(w))),
         _ => Ok(()),
     }
 }
@@ -134,9 +128,6 @@ pub fn check(w: u64, n: Counts) -> Result<(), Refusal>
     if mask == ABSENT {
         return Err(Refusal::Opcode);
     }
-    if fits(w, mask) {
-        rest(w, n)
-    } else {
-        Err(Refusal::Operand)
-    }
+    checked(fits(w, mask))?;
+    rest(w, n)
 }

@@ -7,7 +7,7 @@ ghost use Rattle.op.specs.Decode.{checked_of};
 
 use crate::word::{
     BARE, CONDITION, FUNCTION, JUMP, JUMP_IF, JUMP_IMMEDIATE, JUMP_TWO, LOOKUP, ONE_AND_NUMBER,
-    SWITCH, THREE, TWO, TWO_AND_NUMBER, bytes, fits, fits_alloc, upper_signed,
+    SWITCH, THREE, TWO, TWO_AND_NUMBER, bytes, checked, fits, fits_alloc, upper_signed,
 };
 use crate::{Keys, Reg};
 use anomaly::Refusal;
@@ -32,9 +32,7 @@ pub fn three(w: u64) -> Result<(Reg, Reg, Reg), Refusal>
     ensures { result
         ≡ checked_of (passes register register register unused (parts_of w)) ((parts_of w).one, (parts_of w).two, (parts_of w).three) }
 {
-    if !fits(w, THREE) {
-        return Err(Refusal::Operand);
-    }
+    checked(fits(w, THREE))?;
     Ok((
         Reg::new(bytes::<1, 1>(w)),
         Reg::new(bytes::<2, 1>(w)),
@@ -42,14 +40,14 @@ pub fn three(w: u64) -> Result<(Reg, Reg, Reg), Refusal>
     ))
 }
 
+// `signed` and `number` are two readings of bytes 4 to 7, and a function for both, here and of one register, would be no plainer: by a
+// flag its contract is a choice between these two, by a closure it speaks of what the closure gives, and each caller names its own anyway.
 #[inline(always)]
 pub fn two_and_signed(w: u64) -> Result<(Reg, Reg, u64), Refusal>
     ensures { result
         ≡ checked_of (passes register register unused anyNumber (parts_of w)) ((parts_of w).one, (parts_of w).two, (parts_of w).signed) }
 {
-    if !fits(w, TWO_AND_NUMBER) {
-        return Err(Refusal::Operand);
-    }
+    checked(fits(w, TWO_AND_NUMBER))?;
     Ok((
         Reg::new(bytes::<1, 1>(w)),
         Reg::new(bytes::<2, 1>(w)),
@@ -62,9 +60,7 @@ pub fn two_and_number(w: u64) -> Result<(Reg, Reg, u64), Refusal>
     ensures { result
         ≡ checked_of (passes register register unused anyNumber (parts_of w)) ((parts_of w).one, (parts_of w).two, (parts_of w).number) }
 {
-    if !fits(w, TWO_AND_NUMBER) {
-        return Err(Refusal::Operand);
-    }
+    checked(fits(w, TWO_AND_NUMBER))?;
     Ok((
         Reg::new(bytes::<1, 1>(w)),
         Reg::new(bytes::<2, 1>(w)),
@@ -76,9 +72,7 @@ pub fn two_and_number(w: u64) -> Result<(Reg, Reg, u64), Refusal>
 pub fn two(w: u64) -> Result<(Reg, Reg), Refusal>
     ensures { result ≡ checked_of (passes register register unused unused (parts_of w)) ((parts_of w).one, (parts_of w).two) }
 {
-    if !fits(w, TWO) {
-        return Err(Refusal::Operand);
-    }
+    checked(fits(w, TWO))?;
     Ok((Reg::new(bytes::<1, 1>(w)), Reg::new(bytes::<2, 1>(w))))
 }
 
@@ -86,9 +80,7 @@ pub fn two(w: u64) -> Result<(Reg, Reg), Refusal>
 pub fn one_and_signed(w: u64) -> Result<(Reg, u64), Refusal>
     ensures { result ≡ checked_of (passes register unused unused anyNumber (parts_of w)) ((parts_of w).one, (parts_of w).signed) }
 {
-    if !fits(w, ONE_AND_NUMBER) {
-        return Err(Refusal::Operand);
-    }
+    checked(fits(w, ONE_AND_NUMBER))?;
     Ok((Reg::new(bytes::<1, 1>(w)), upper_signed(w)))
 }
 
@@ -96,9 +88,7 @@ pub fn one_and_signed(w: u64) -> Result<(Reg, u64), Refusal>
 pub fn one_and_number(w: u64) -> Result<(Reg, usize), Refusal>
     ensures { result ≡ checked_of (passes register unused unused anyNumber (parts_of w)) ((parts_of w).one, (parts_of w).number) }
 {
-    if !fits(w, ONE_AND_NUMBER) {
-        return Err(Refusal::Operand);
-    }
+    checked(fits(w, ONE_AND_NUMBER))?;
     Ok((Reg::new(bytes::<1, 1>(w)), bytes::<4, 4>(w)))
 }
 
@@ -106,9 +96,7 @@ pub fn one_and_number(w: u64) -> Result<(Reg, usize), Refusal>
 pub fn jump(w: u64) -> Result<usize, Refusal>
     ensures { result ≡ checked_of (passes unused anyByte anyByte unused (parts_of w)) (parts_of w).target }
 {
-    if !fits(w, JUMP) {
-        return Err(Refusal::Operand);
-    }
+    checked(fits(w, JUMP))?;
     Ok(bytes::<2, 2>(w))
 }
 
@@ -116,9 +104,7 @@ pub fn jump(w: u64) -> Result<usize, Refusal>
 pub fn jump_if(w: u64) -> Result<(Reg, usize), Refusal>
     ensures { result ≡ checked_of (passes register anyByte anyByte unused (parts_of w)) ((parts_of w).one, (parts_of w).target) }
 {
-    if !fits(w, JUMP_IF) {
-        return Err(Refusal::Operand);
-    }
+    checked(fits(w, JUMP_IF))?;
     Ok((Reg::new(bytes::<1, 1>(w)), bytes::<2, 2>(w)))
 }
 
@@ -127,9 +113,7 @@ pub fn jump_immediate(w: u64) -> Result<(Reg, u64, usize), Refusal>
     ensures { result
         ≡ checked_of (passes register anyByte anyByte anyNumber (parts_of w)) ((parts_of w).one, (parts_of w).signed, (parts_of w).target) }
 {
-    if !fits(w, JUMP_IMMEDIATE) {
-        return Err(Refusal::Operand);
-    }
+    checked(fits(w, JUMP_IMMEDIATE))?;
     Ok((
         Reg::new(bytes::<1, 1>(w)),
         upper_signed(w),
@@ -142,9 +126,7 @@ pub fn jump_two(w: u64) -> Result<(Reg, Reg, usize), Refusal>
     ensures { result
         ≡ checked_of (passes register anyByte anyByte register (parts_of w)) ((parts_of w).one, (parts_of w).number, (parts_of w).target) }
 {
-    if !fits(w, JUMP_TWO) {
-        return Err(Refusal::Operand);
-    }
+    checked(fits(w, JUMP_TWO))?;
     Ok((
         Reg::new(bytes::<1, 1>(w)),
         Reg::new(bytes::<4, 4>(w)),
@@ -157,9 +139,7 @@ pub fn switch(w: u64) -> Result<(Keys, Reg, usize), Refusal>
     ensures { result
         ≡ checked_of (passes switchKind register unused anyNumber (parts_of w)) (keys_of (parts_of w).one, (parts_of w).two, (parts_of w).number) }
 {
-    if !fits(w, SWITCH) {
-        return Err(Refusal::Operand);
-    }
+    checked(fits(w, SWITCH))?;
     Ok((
         keys(bytes::<1, 1>(w)),
         Reg::new(bytes::<2, 1>(w)),
@@ -173,9 +153,7 @@ pub fn lookup(w: u64) -> Result<(Keys, Reg, Reg, usize), Refusal>
         ≡ checked_of (passes register register switchKind anyNumber (parts_of w))
         (keys_of (parts_of w).three, (parts_of w).one, (parts_of w).two, (parts_of w).number) }
 {
-    if !fits(w, LOOKUP) {
-        return Err(Refusal::Operand);
-    }
+    checked(fits(w, LOOKUP))?;
     Ok((
         keys(bytes::<3, 1>(w)),
         Reg::new(bytes::<1, 1>(w)),
@@ -188,9 +166,7 @@ pub fn lookup(w: u64) -> Result<(Keys, Reg, Reg, usize), Refusal>
 pub fn function(w: u64) -> Result<usize, Refusal>
     ensures { result ≡ checked_of (passes unused unused unused anyNumber (parts_of w)) (parts_of w).number }
 {
-    if !fits(w, FUNCTION) {
-        return Err(Refusal::Operand);
-    }
+    checked(fits(w, FUNCTION))?;
     Ok(bytes::<4, 4>(w))
 }
 
@@ -200,9 +176,7 @@ pub fn alloc(w: u64) -> Result<(Reg, AllocType, u64, u64), Refusal>
         ≡ checked_of (passes register allocKind alignment anyNumber (parts_of w))
         ((parts_of w).one, kind_of (parts_of w).two, (parts_of w).number, (parts_of w).three) }
 {
-    if !fits_alloc(w) {
-        return Err(Refusal::Operand);
-    }
+    checked(fits_alloc(w))?;
     Ok((
         Reg::new(bytes::<1, 1>(w)),
         kind(bytes::<2, 1>(w)),
@@ -215,9 +189,7 @@ pub fn alloc(w: u64) -> Result<(Reg, AllocType, u64, u64), Refusal>
 pub fn condition(w: u64) -> Result<Reg, Refusal>
     ensures { result ≡ checked_of (passes register unused unused unused (parts_of w)) (parts_of w).one }
 {
-    if !fits(w, CONDITION) {
-        return Err(Refusal::Operand);
-    }
+    checked(fits(w, CONDITION))?;
     Ok(Reg::new(bytes::<1, 1>(w)))
 }
 
@@ -225,8 +197,5 @@ pub fn condition(w: u64) -> Result<Reg, Refusal>
 pub fn bare(w: u64) -> Result<(), Refusal>
     ensures { result ≡ checked_of (passes unused unused unused unused (parts_of w)) tt }
 {
-    if !fits(w, BARE) {
-        return Err(Refusal::Operand);
-    }
-    Ok(())
+    checked(fits(w, BARE))
 }

@@ -2,6 +2,9 @@
 ghost use Rattle.std.specs.Prelude.{◌≡◌, ◌==◌, ◌<◌, ◌/◌, ◌%◌, ◌^◌, bit_and};
 ghost use Rattle.op.specs.Layout.{parts_of, passes, is_alignment};
 ghost use Rattle.op.specs.Layout.{register, allocKind, alignment, anyNumber};
+ghost use Rattle.op.specs.Decode.{checked_of};
+
+use anomaly::Refusal;
 
 // A mask for each shape in the picture at the head of the crate: the bits that are zero in its words. A byte of it is ff where
 // the picture is empty, e0 for a register (below 32), fe for the kind of a table's keys (below 2), fc for the kind of a block
@@ -38,6 +41,14 @@ pub fn fits(w: u64, mask: u64) -> bool
     ensures { result ≡ (bit_and w mask == 0) }
 {
     w & mask == 0
+}
+
+// `Operand` (13), where a test of a word fails.
+#[inline(always)]
+pub(crate) fn checked(passes: bool) -> Result<(), Refusal>
+    ensures { result ≡ checked_of passes tt }
+{
+    passes.then_some(()).ok_or(Refusal::Operand)
 }
 
 // The number that stands in COUNT bytes from byte FROM on.

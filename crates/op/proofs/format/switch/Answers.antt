@@ -1,16 +1,16 @@
 -- `op::format::switch` meets its contract: its mask says what its parts hold. Assumes nothing.
-use Rattle.std.proofs.Common.{sym, ◌∙◌}
+use Rattle.std.proofs.Common.{◌∙◌}
 use Rattle.op.specs.Layout.{parts_of, switchKind, register, unused, anyNumber}
 use Rattle.op.proofs.Masks.{switch}
 use Rattle.op.proofs.Sound.{parts_in}
-use Rattle.op.proofs.Formats.{refuses, gives}
+use Rattle.op.proofs.Formats.{passed, refuses, gives}
 use Rattle.op.proofs.format.switch.Goals as goal
 
-pub returns-then-not-fits : goal.returns-then-not-fits
-returns-then-not-fits c = refuses _ _ (sym (switch _) ∙ sym c.fits.ensures ∙ c.if-not-fits.true)
+pub returns-in_err-checked : goal.returns-in_err-checked
+returns-in_err-checked c = refuses (c.fits.ensures ∙ switch _) c.checked.ensures _ _ _ c.in_err-checked.was c.from_residual.ensures.1
 
 pub new-requires : goal.new-requires
-new-requires c = rw c.bytes-2.ensures (parts_in switchKind register unused anyNumber (parts_of c.args.w) (sym (switch _) ∙ sym c.fits.ensures ∙ c.if-not-fits.false)).two
+new-requires c = rw c.bytes-2.ensures (parts_in switchKind register unused anyNumber (parts_of c.args.w) (passed (c.fits.ensures ∙ switch _) c.checked.ensures c.in_ok-checked.was)).two
 
 pub returns : goal.returns
-returns c = gives _ _ _ (sym (switch _) ∙ sym c.fits.ensures ∙ c.if-not-fits.false) cc
+returns c = gives _ _ _ (passed (c.fits.ensures ∙ switch _) c.checked.ensures c.in_ok-checked.was) cc

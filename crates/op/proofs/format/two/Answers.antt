@@ -1,19 +1,19 @@
 -- `op::format::two` meets its contract: its mask says what its parts hold. Assumes nothing.
-use Rattle.std.proofs.Common.{sym, ◌∙◌}
+use Rattle.std.proofs.Common.{◌∙◌}
 use Rattle.op.specs.Layout.{parts_of, register, unused}
 use Rattle.op.proofs.Masks.{two-registers}
 use Rattle.op.proofs.Sound.{parts_in}
-use Rattle.op.proofs.Formats.{refuses, gives}
+use Rattle.op.proofs.Formats.{passed, refuses, gives}
 use Rattle.op.proofs.format.two.Goals as goal
 
-pub returns-then-not-fits : goal.returns-then-not-fits
-returns-then-not-fits c = refuses _ _ (sym (two-registers _) ∙ sym c.fits.ensures ∙ c.if-not-fits.true)
+pub returns-in_err-checked : goal.returns-in_err-checked
+returns-in_err-checked c = refuses (c.fits.ensures ∙ two-registers _) c.checked.ensures _ _ _ c.in_err-checked.was c.from_residual.ensures.1
 
 pub new-requires : goal.new-requires
-new-requires c = rw c.bytes.ensures (parts_in register register unused unused (parts_of c.args.w) (sym (two-registers _) ∙ sym c.fits.ensures ∙ c.if-not-fits.false)).one
+new-requires c = rw c.bytes.ensures (parts_in register register unused unused (parts_of c.args.w) (passed (c.fits.ensures ∙ two-registers _) c.checked.ensures c.in_ok-checked.was)).one
 
 pub new-requires-2 : goal.new-requires-2
-new-requires-2 c = rw c.bytes-2.ensures (parts_in register register unused unused (parts_of c.args.w) (sym (two-registers _) ∙ sym c.fits.ensures ∙ c.if-not-fits.false)).two
+new-requires-2 c = rw c.bytes-2.ensures (parts_in register register unused unused (parts_of c.args.w) (passed (c.fits.ensures ∙ two-registers _) c.checked.ensures c.in_ok-checked.was)).two
 
 pub returns : goal.returns
-returns c = gives _ _ _ (sym (two-registers _) ∙ sym c.fits.ensures ∙ c.if-not-fits.false) cc
+returns c = gives _ _ _ (passed (c.fits.ensures ∙ two-registers _) c.checked.ensures c.in_ok-checked.was) cc
