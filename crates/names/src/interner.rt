@@ -8,7 +8,7 @@ ghost use Rattle.vm.specs.declared.State.{State};
 ghost use Rattle.vm.specs.Names.{fresh, interned};
 ghost use Rattle.vm.specs.Machine.{Lent, lend_names, memory_of, value, intern, host, host_call, found, name_tests, perform};
 ghost use Rattle.vm.specs.Told.{machine_of, answer_by, told};
-ghost use Rattle.names.specs.Interned.{name_block, Belong, in_state};
+ghost use Rattle.names.specs.Interned.{name_block, Belong, names_of, in_state};
 
 use crate::to_name::ToName;
 use anomaly::Refusal;
@@ -16,13 +16,24 @@ use gc::{AllocType, Gc, Heap, Metadata};
 use str_table::StrTable;
 use string::name::{Hashed, Name};
 use string::payload::{self, Pushed};
-use vm::lent;
+use vm::{State, lent};
 
 // What interning needs of a state: the numbers of its heap and of its table of names.
 #[derive(Clone, Copy)]
 pub struct Names {
     pub gc: Gc,
     pub strings: StrTable,
+}
+
+impl From<&State> for Names {
+    ghost from_gives = { λ state names. names ≡ names_of state.now };
+
+    fn from(state: &State) -> Names {
+        Names {
+            gc: state.gc,
+            strings: state.strings,
+        }
+    }
 }
 
 // A block with the header and the bytes of a name.
