@@ -62,11 +62,7 @@ impl Pack for State {
         words[..32].copy_from_slice(&self.regs);
         words[32] = self.pc as u64;
         words[33] = self.depth as u64;
-        let names = Names {
-            gc: self.gc,
-            strings: self.strings,
-        };
-        names.pack(words);
+        Names::from(&self).pack(words);
     }
 }
 

@@ -5,6 +5,7 @@ use gc::{AllocType, Gc, Heap, Metadata};
 use std::io;
 use str_table::StrTable;
 use string::fxhash::{hash, small_hash};
+use string::name::Hashed;
 use string::payload::{Pushed, write_payload};
 use value::int::DivisionError;
 use value::{Value, double, int};
@@ -120,11 +121,12 @@ fn found(s: &[u8]) -> u64 {
     let mut slots = [0u64; 64];
     let mut spare = [0u64; 64];
     let name: &[u8] = b"a";
-    write_payload(&mut heap[48..], name, hash(name));
+    let hashed = Hashed::of(name);
+    write_payload(&mut heap[48..], hashed);
     let pushed = Pushed { base, bytes: &heap };
     let t = StrTable { active: 0, len: 0 };
-    t.insert(pushed, hash(name), 65584, &mut slots, &mut spare);
-    str_table::get(pushed, &slots, s, hash(s)).unwrap_or(0)
+    t.insert(pushed, hashed.hash, 65584, &mut slots, &mut spare);
+    str_table::get(pushed, &slots, Hashed::of(s)).unwrap_or(0)
 }
 
 fn names(rt: &impl Print) -> io::Result<()> {

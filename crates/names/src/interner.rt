@@ -8,15 +8,15 @@ ghost use Rattle.vm.specs.declared.State.{State};
 ghost use Rattle.vm.specs.Names.{fresh, interned};
 ghost use Rattle.vm.specs.Machine.{Lent, lend_names, memory_of, value, intern, host, host_call, found, name_tests, perform};
 ghost use Rattle.vm.specs.Told.{machine_of, answer_by, told};
-ghost use Rattle.names.specs.Interned.{name_block, Belong, in_state};
+ghost use Rattle.names.specs.Interned.{name_block, Belong, names_of, in_state};
 
 use crate::to_name::ToName;
 use anomaly::Refusal;
 use gc::{AllocType, Gc, Heap, Metadata};
 use str_table::StrTable;
-use string::name::Name;
+use string::name::{Hashed, Name};
 use string::payload::{self, Pushed};
-use vm::lent;
+use vm::{State, lent};
 
 // What interning needs of a state: the numbers of its heap and of its table of names.
 #[derive(Clone, Copy)]
@@ -25,18 +25,29 @@ pub struct Names {
     pub strings: StrTable,
 }
 
-// A block with the header and the bytes of a name, whose hash is `hash`.
-fn store<N: Name>(heap: &mut Heap, name: N, hash: u32) -> Option<u64>
+impl From<&State> for Names {
+    ghost from_gives = { λ state names. names ≡ names_of state.now };
+
+    fn from(state: &State) -> Names {
+        Names {
+            gc: state.gc,
+            strings: state.strings,
+        }
+    }
+}
+
+// A block with the header and the bytes of a name.
+fn store<N: Name>(heap: &mut Heap, hashed: Hashed<N>) -> Option<u64>
     ensures same_reference { heap.new.bytes.ghost_name ≡ heap.old.bytes.ghost_name }
     ensures outcome { outcome result heap.new.gc heap.new.bytes.now
-        ≡ granted_in (name_block (N.bytes name) hash (pages_of heap.old.gc heap.old.bytes.now)) heap.old.gc
+        ≡ granted_in (name_block (N.bytes hashed.name) hashed.hash (pages_of heap.old.gc heap.old.bytes.now)) heap.old.gc
         heap.old.bytes.now }
 {
     let base = heap.gc.base;
-    let size = payload::payload_size(name.len());
+    let size = payload::payload_size(hashed.name.len());
     let address = heap.alloc(Metadata::new(AllocType::String, false, size))?;
     let at = (address - base) as usize;
-    payload::write_payload(&mut heap.bytes[at..], name, hash);
+    payload::write_payload(&mut heap.bytes[at..], hashed);
     Some(address)
 }
 
@@ -66,18 +77,17 @@ impl Names {
     // A name that is not there yet. The slots are tested first: 18 before 2.
     fn fresh<N: Name>(
         &mut self,
-        name: N,
-        hash: u32,
+        hashed: Hashed<N>,
         heap: &mut [u8],
         slots: &mut [u64],
         spare: &mut [u64],
     ) -> Result<u64, Refusal>
-        requires { Belong self.old heap.old slots.old spare.old × (hash ≡ hash_of (N.bytes name)) }
+        requires { Belong self.old heap.old slots.old spare.old × (hashed.hash ≡ hash_of (N.bytes hashed.name)) }
         ensures { (rest : State) (l : Lent)
             → told (answer_by value result) (in_state rest self.new) (lend_names heap.new slots.new spare.new l)
-            ≡ host_call (intern (N.bytes name))
+            ≡ host_call (intern (N.bytes hashed.name))
             (machine_of (in_state rest self.old) (lend_names heap.old slots.old spare.old l))
-            (fresh (N.bytes name) (memory_of
+            (fresh (N.bytes hashed.name) (memory_of
             (machine_of (in_state rest self.old) (lend_names heap.old slots.old spare.old l)))) }
     {
         if slots.len() < self.strings.room() {
@@ -87,7 +97,7 @@ impl Names {
             gc: self.gc,
             bytes: heap,
         };
-        let stored = store(&mut heap, name, hash);
+        let stored = store(&mut heap, hashed);
         let Heap { gc, bytes } = heap;
         self.gc = gc;
         let address = stored.ok_or(Refusal::Memory)?;
@@ -95,7 +105,9 @@ impl Names {
             base: gc.base,
             bytes: &bytes[..gc.pushed],
         };
-        self.strings = self.strings.insert(pages, hash, address, slots, spare);
+        self.strings = self
+            .strings
+            .insert(pages, hashed.hash, address, slots, spare);
         Ok(address)
     }
 
@@ -115,14 +127,14 @@ impl Names {
             (interned (N.bytes name) (memory_of
             (machine_of (in_state rest self.old) (lend_names heap.old slots.old spare.old l)))) }
     {
-        let hash = name.hash();
+        let hashed = Hashed::of(name);
         let pages = Pushed {
             base: self.gc.base,
             bytes: &heap[..self.gc.pushed],
         };
-        match str_table::get(pages, &slots[..self.strings.active], name, hash) {
+        match str_table::get(pages, &slots[..self.strings.active], hashed) {
             Some(value) => Ok(value),
-            None => self.fresh(name, hash, heap, slots, spare),
+            None => self.fresh(hashed, heap, slots, spare),
         }
     }
 

@@ -25,10 +25,7 @@ pub fn intern<G: ToName>(
         ≡ perform (host (G.call given))
         (machine_of state.old (lend_names heap.old slots.old spare.old l)) }
 {
-    let mut names = Names {
-        gc: state.gc,
-        strings: state.strings,
-    };
+    let mut names = Names::from(&*state);
     let value = names.intern(given, heap, slots, spare);
     state.gc = names.gc;
     state.strings = names.strings;

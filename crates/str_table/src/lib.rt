@@ -9,7 +9,7 @@ ghost use Rattle.str_table.specs.Table.{lookup, found_value, placed};
 ghost use Rattle.str_table.specs.Grow.{stored_hash, moved, with_room, spare_after, room_of, inserted, insert_of};
 ghost use Rattle.str_table.specs.Sound.{slot_count, active_ok, slots_ok, sound_of};
 
-use string::name::Name;
+use string::name::{Hashed, Name};
 use string::payload::{Pushed, header_in};
 use value::Value;
 
@@ -53,18 +53,20 @@ fn look_up<F: Fn(u64) -> bool>(slots: &[u64], hash: u32, hit: F) -> Probe
     Probe::Full
 }
 
-// What probing for a name comes to among the active slots. `hash` is its hash.
-pub fn probe_for<N: Name>(heap: Pushed, slots: &[u64], name: N, hash: u32) -> Probe
-    ensures { result ≡ lookup (holds heap.entry.base heap.entry.bytes.now (N.bytes name) hash) slots.now hash }
+// What probing for a name comes to among the active slots.
+pub fn probe_for<N: Name>(heap: Pushed, slots: &[u64], hashed: Hashed<N>) -> Probe
+    ensures { result
+        ≡ lookup (holds heap.entry.base heap.entry.bytes.now (N.bytes hashed.name) hashed.hash) slots.now hashed.hash }
 {
-    look_up(slots, hash, |v| heap.is_string(name, hash, v))
+    look_up(slots, hashed.hash, |v| heap.is_string(hashed, v))
 }
 
-// The value of a name among the active slots. `hash` is its hash.
-pub fn get<N: Name>(heap: Pushed, slots: &[u64], name: N, hash: u32) -> Option<u64>
-    ensures { result ≡ found_value (lookup (holds heap.entry.base heap.entry.bytes.now (N.bytes name) hash) slots.now hash) }
+// The value of a name among the active slots.
+pub fn get<N: Name>(heap: Pushed, slots: &[u64], hashed: Hashed<N>) -> Option<u64>
+    ensures { result
+        ≡ found_value (lookup (holds heap.entry.base heap.entry.bytes.now (N.bytes hashed.name) hashed.hash) slots.now hashed.hash) }
 {
-    match probe_for(heap, slots, name, hash) {
+    match probe_for(heap, slots, hashed) {
         Probe::Found(v) => Some(v),
         Probe::Vacant(_) | Probe::Full => None,
     }

@@ -27,6 +27,25 @@ pub trait Name: Copy {
         ensures { to.new ≡ over (bytes self) to.old };
 }
 
+// A name with a hash that was taken of it before.
+#[derive(Clone, Copy)]
+pub struct Hashed<N: Name> {
+    pub name: N,
+    pub hash: u32,
+}
+
+impl<N: Name> Hashed<N> {
+    // With its own hash.
+    pub fn of(name: N) -> Hashed<N>
+        ensures { (result.name ≡ name) × (result.hash ≡ hash_of (N.bytes name)) }
+    {
+        Hashed {
+            name,
+            hash: name.hash(),
+        }
+    }
+}
+
 impl<'a> Name for &'a [u8] {
     ghost bytes = { λ s. s.now };
 

@@ -3,7 +3,7 @@ ghost use Rattle.std.specs.Prelude.{◌≡◌, ◌+◌, ◌-◌, ◌≤◌, ◌<
 ghost use Rattle.memory.specs.Lists.{over};
 ghost use Rattle.string.specs.Payload.{payload_of, payload_size, reaches, headed, bytes_at, holds};
 
-use crate::name::Name;
+use crate::name::{Hashed, Name};
 
 pub const HEADER_SIZE: usize = 8;
 
@@ -14,14 +14,14 @@ pub fn payload_size(len: usize) -> u64
     (HEADER_SIZE + len) as u64
 }
 
-// Header and bytes of a name, into the part of the heap that starts at the payload. `hash` is its hash.
-pub fn write_payload<N: Name>(to: &mut [u8], name: N, hash: u32)
-    requires { payload_size (length (N.bytes name)) ≤ length to.old }
-    ensures { to.new ≡ over (payload_of (N.bytes name) hash) to.old }
+// Header and bytes of a name, into the part of the heap that starts at the payload.
+pub fn write_payload<N: Name>(to: &mut [u8], hashed: Hashed<N>)
+    requires { payload_size (length (N.bytes hashed.name)) ≤ length to.old }
+    ensures { to.new ≡ over (payload_of (N.bytes hashed.name) hashed.hash) to.old }
 {
-    memory::store::<4>(to, 0, name.len() as u64);
-    memory::store::<4>(to, 4, u64::from(hash));
-    name.write(&mut to[HEADER_SIZE..]);
+    memory::store::<4>(to, 0, hashed.name.len() as u64);
+    memory::store::<4>(to, 4, u64::from(hashed.hash));
+    hashed.name.write(&mut to[HEADER_SIZE..]);
 }
 
 // Whether the header of the string at v lies in the `pushed` bytes from `base` on.
@@ -67,12 +67,12 @@ impl<'a> Pushed<'a> {
         Some(&bytes[from..from + len])
     }
 
-    // Whether the string at v is the name, whose hash is `hash`.
-    pub fn is_string<N: Name>(self, name: N, hash: u32, v: u64) -> bool
-        ensures { result ≡ holds self.entry.base self.entry.bytes.now (N.bytes name) hash v }
+    // Whether the string at v is the name.
+    pub fn is_string<N: Name>(self, hashed: Hashed<N>, v: u64) -> bool
+        ensures { result ≡ holds self.entry.base self.entry.bytes.now (N.bytes hashed.name) hashed.hash v }
     {
-        match self.bytes_of(name.len(), hash, v) {
-            Some(bytes) => name.is(bytes),
+        match self.bytes_of(hashed.name.len(), hashed.hash, v) {
+            Some(bytes) => hashed.name.is(bytes),
             None => false,
         }
     }

@@ -2,4 +2,4 @@
 use Rattle.names.proofs.intern.Goals as goal
 
 pub returns : goal.returns
-returns g c = λ l. c.intern-value.ensures c.args.state.now l
+returns g c = λ l. rw c.from-names.ensures at (c.intern-value.ensures c.args.state.now l)

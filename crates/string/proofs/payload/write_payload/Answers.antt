@@ -5,5 +5,5 @@ use Rattle.string.proofs.payload.write_payload.Goals as goal
 
 pub returns : goal.returns
 returns g c =
-    payload_written (g.N.Name.bytes c.args.name) c.args.to.now _ _ _ c.args.hash _ _ (omega (arith, c.requires)) c.len.ensures.0 c.from.ensures
+    payload_written (g.N.Name.bytes c.args.hashed.name) c.args.to.now _ _ _ c.args.hashed.hash _ _ (omega (arith, c.requires)) c.len.ensures.0 c.from.ensures
     c.store.ensures c.store-2.ensures c.write.ensures

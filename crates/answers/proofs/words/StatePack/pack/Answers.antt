@@ -9,5 +9,5 @@ use Rattle.answers.proofs.words.StatePack.pack.Goals as goal
 pub returns : goal.returns
 returns c =
     let long : length c.args.self.regs ≡ 32 = search rules in
-    (rw c.copy_from_slice.ensures.after at c.pack.ensures)
+    (rw (c.copy_from_slice.ensures.after, c.from.ensures) at c.pack.ensures)
     ∙ packed-home c.args.self _ c.args.words.now long (length-drop 32 c.args.words.now ∙ omega arith) (search rules)

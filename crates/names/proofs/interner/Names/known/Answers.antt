@@ -6,9 +6,10 @@ use Rattle.names.proofs.interner.Names.known.Goals as goal
 
 pub returns-in-Some : goal.returns-in-Some
 returns-in-Some g c =
-    λ rest l. told_found (in_state rest c.args.self.now) (lend_names _ _ _ l) _ c.requires _ c.hash-hash.ensures _ c.get.ensures _ c.in-Some.is
+    λ rest l. told_found (in_state rest c.args.self.now) (lend_names _ _ _ l) _ c.requires _ c.of-hashed.ensures.1 _
+    (rw c.of-hashed.ensures.0 at c.get.ensures) _ c.in-Some.is
 
 pub returns-in-None : goal.returns-in-None
 returns-in-None g c =
-    λ rest l. told_fresh (in_state rest c.args.self.now) (lend_names _ _ _ l) _ c.requires _ c.hash-hash.ensures _ c.get.ensures c.in-None.is _
-    (c.fresh.ensures rest l)
+    λ rest l. told_fresh (in_state rest c.args.self.now) (lend_names _ _ _ l) _ c.requires _ c.of-hashed.ensures.1 _
+    (rw c.of-hashed.ensures.0 at c.get.ensures) c.in-None.is _ (rw c.of-hashed.ensures.0 at (c.fresh.ensures rest l))
