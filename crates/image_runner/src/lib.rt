@@ -9,13 +9,13 @@ ghost use Rattle.image_runner.specs.Runner.{sections_fit, room_for, answer_of};
 use anomaly::Refusal;
 use gc::PAGE_SIZE;
 use image_words::join;
-use program::HEADER;
+use program::{HEADER, MAX_ENTRIES, MAX_GLOBALS, MAX_TABLES};
 use rating::rate;
 use report::{Text, refusal_text};
 use text::sections::Section;
 use text::{Head, sections};
 
-// The runner's own limits of pages, words and frames; the machine's of slots, globals, tables and entries.
+// The runner's own limits of pages, words and frames, and the machine's of slots; those of globals, tables and entries are `program`'s.
 const MAX_PAGES: u64 = 8;
 
 const MAX_WORDS: usize = 4096;
@@ -23,12 +23,6 @@ const MAX_WORDS: usize = 4096;
 const MAX_FRAMES: usize = 4096;
 
 const MAX_SLOTS: usize = 4096;
-
-const MAX_GLOBALS: usize = 4096;
-
-const MAX_TABLES: usize = 256;
-
-const MAX_ENTRIES: usize = 4096;
 
 // The words of an image whose every section is as long as it may be.
 const MAX_IMAGE: usize = HEADER + MAX_WORDS + MAX_GLOBALS + 2 * MAX_ENTRIES + 5 * MAX_TABLES;

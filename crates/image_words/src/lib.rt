@@ -23,7 +23,7 @@ const SECTIONS: [Section; HEADER] = [
     Section::LookupDefaults,
 ];
 
-// The numbers of a section from a place on; the place behind them.
+// The numbers of a section from a place on; the place behind them. Written into lent words, as `join` says.
 #[tactic(auto, using(crate::proofs::Joins::section_put))]
 fn put_section(input: &[u8], section: Section, words: &mut [u64], at: usize) -> usize
     requires { at + length (section_in section input.now) ≤ length words.old }
