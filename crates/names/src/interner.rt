@@ -15,7 +15,7 @@ use anomaly::Refusal;
 use gc::{AllocType, Gc, Heap, Metadata};
 use str_table::StrTable;
 use string::name::{Hashed, Name};
-use string::payload::{self, Pushed};
+use string::payload::{self, Extent, Pushed};
 use vm::{State, lent};
 
 // What interning needs of a state: the numbers of its heap and of its table of names.
@@ -58,7 +58,11 @@ impl Names {
     fn names_belong(self, slots: &[u64]) -> Result<(), Refusal>
         ensures { refused_with result ≡ failing (test (sound_of self.gc.base self.gc.pushed self.strings slots.now) 9 ∷ []) }
     {
-        let sound = self.strings.sound(self.gc.base, self.gc.pushed, slots);
+        let extent = Extent {
+            base: self.gc.base,
+            len: self.gc.pushed,
+        };
+        let sound = self.strings.sound(extent, slots);
         sound.then_some(()).ok_or(Refusal::State)
     }
 

@@ -10,7 +10,7 @@ ghost use Rattle.str_table.specs.Grow.{stored_hash, moved, with_room, spare_afte
 ghost use Rattle.str_table.specs.Sound.{slot_count, active_ok, slots_ok, sound_of};
 
 use string::name::{Hashed, Name};
-use string::payload::{Pushed, header_in};
+use string::payload::{Extent, Pushed};
 use value::Value;
 
 const EMPTY: u64 = Value::UNDEF.0;
@@ -85,7 +85,7 @@ fn place(hash: u32, v: u64, slots: &mut [u64])
 fn str_hash(heap: Pushed, v: u64) -> u32
     ensures { result ≡ stored_hash heap.entry.base heap.entry.bytes.now v }
 {
-    if !header_in(heap.base, heap.bytes.len(), v) {
+    if !heap.extent().has_header(v) {
         return 0;
     }
     let at = (v - heap.base) as usize + 4;
@@ -141,25 +141,25 @@ fn active_ok(active: usize, lent: usize) -> bool
     active <= lent && (active == 0 || slot_count(active))
 }
 
-// Whether the slot is empty, or the header of what it holds lies in the `pushed` bytes. `|` and not
+// Whether the slot is empty, or the header of what it holds lies in the pushed bytes. `|` and not
 // `||`: which slots are filled is as good as random, and with a branch on it the test of a table of
 // 4,096 slots takes three times as long.
-fn slot_ok(base: u64, pushed: usize, v: u64) -> bool
-    ensures { result ≡ (v == 0 || reaches base pushed v 8) }
+fn slot_ok(extent: Extent, v: u64) -> bool
+    ensures { result ≡ (v == 0 || reaches extent.base extent.len v 8) }
 {
-    (v == EMPTY) | header_in(base, pushed, v)
+    (v == EMPTY) | extent.has_header(v)
 }
 
 // Whether `len` of the active slots are filled, at most half of them, each with its header in the
-// `pushed` bytes.
-fn slots_ok(base: u64, pushed: usize, len: usize, slots: &[u64]) -> bool
-    ensures { result ≡ slots_ok base pushed len slots.now }
+// pushed bytes.
+fn slots_ok(extent: Extent, len: usize, slots: &[u64]) -> bool
+    ensures { result ≡ slots_ok extent.base extent.len len slots.now }
 {
     let mut filled = 0;
     let mut headers = true;
     for &v in slots {
         filled += usize::from(v != EMPTY);
-        headers &= slot_ok(base, pushed, v);
+        headers &= slot_ok(extent, v);
     }
     if !headers || filled != len {
         return false;
@@ -176,13 +176,13 @@ pub struct StrTable {
 
 impl StrTable {
     // Whether the numbers can belong to the lent slots: refusal 9.
-    pub fn sound(self, base: u64, pushed: usize, slots: &[u64]) -> bool
-        ensures { result ≡ sound_of base pushed self slots.now }
+    pub fn sound(self, extent: Extent, slots: &[u64]) -> bool
+        ensures { result ≡ sound_of extent.base extent.len self slots.now }
     {
         if !active_ok(self.active, slots.len()) {
             return false;
         }
-        slots_ok(base, pushed, self.len, &slots[..self.active])
+        slots_ok(extent, self.len, &slots[..self.active])
     }
 
     // How many slots one name more asks for. More than are lent is refusal 18.

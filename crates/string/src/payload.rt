@@ -24,14 +24,23 @@ pub fn write_payload<N: Name>(to: &mut [u8], hashed: Hashed<N>)
     hashed.name.write(&mut to[HEADER_SIZE..]);
 }
 
-// Whether the header of the string at v lies in the `pushed` bytes from `base` on.
-pub fn header_in(base: u64, pushed: usize, v: u64) -> bool
-    ensures { result ≡ reaches base pushed v 8 }
-{
-    if v < base || pushed < HEADER_SIZE {
-        return false;
+// Where the pushed bytes of a heap lie: the address of the first of them, and how many there are.
+#[derive(Clone, Copy)]
+pub struct Extent {
+    pub base: u64,
+    pub len: usize,
+}
+
+impl Extent {
+    // Whether the header of the string at v lies in them.
+    pub fn has_header(self, v: u64) -> bool
+        ensures { result ≡ reaches self.base self.len v 8 }
+    {
+        if v < self.base || self.len < HEADER_SIZE {
+            return false;
+        }
+        v - self.base <= (self.len - HEADER_SIZE) as u64
     }
-    v - base <= (pushed - HEADER_SIZE) as u64
 }
 
 // The pushed bytes of a heap, and the address of the first of them.
@@ -42,6 +51,15 @@ pub struct Pushed<'a> {
 }
 
 impl<'a> Pushed<'a> {
+    pub fn extent(self) -> Extent
+        ensures { (result.base ≡ self.entry.base) × (result.len ≡ length self.entry.bytes.now) }
+    {
+        Extent {
+            base: self.base,
+            len: self.bytes.len(),
+        }
+    }
+
     // The bytes of the string at v, if it has this length and hash and lies in the pushed bytes.
     fn bytes_of(self, len: usize, hash: u32, v: u64) -> Option<&'a [u8]>
         ensures { MatchOption result
@@ -50,7 +68,7 @@ impl<'a> Pushed<'a> {
             × (bs.now ≡ bytes_at self.entry.base self.entry.bytes.now v len)) }
     {
         let bytes = self.bytes;
-        if !header_in(self.base, bytes.len(), v) {
+        if !self.extent().has_header(v) {
             return None;
         }
         let at = (v - self.base) as usize;

@@ -3,4 +3,4 @@ use Rattle.str_table.proofs.Counting.{Counting}
 use Rattle.str_table.proofs.slots_ok.Given as goal
 
 abbrev pub invariant-loop-v : goal.invariant-loop-v
-invariant-loop-v l = Counting l.base l.pushed l.slots l.filled l.headers l.v-index
+invariant-loop-v l = Counting l.extent.base l.extent.len l.slots l.filled l.headers l.v-index
