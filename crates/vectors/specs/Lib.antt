@@ -1,2 +1,3 @@
--- What is counted of the cases.
+-- What a record says, and what is counted of the cases.
+pub mod Recorded
 pub mod Counted

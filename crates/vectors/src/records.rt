@@ -1,5 +1,7 @@
 // The records of a list of vectors.
-ghost use Rattle.std.specs.Prelude.{◌<◌, ◌≤◌, length, IfSome};
+ghost use Rattle.std.specs.Prelude.{◌≡◌, ◌+◌, ◌<◌, ◌≤◌, length, IfSome};
+ghost use Rattle.text.specs.Digits.{field};
+ghost use Rattle.vectors.specs.Recorded.{IsCase, IsFirst};
 
 use text::{all_digits, number, split_line};
 
@@ -35,20 +37,25 @@ pub enum Record<'a> {
     Case(Case<'a>),
 }
 
-// A length in hexadecimal digits.
-fn read_len(digits: &[u8]) -> Option<usize> {
-    (digits.len() <= 16 && all_digits(digits)).then(|| number(digits, 0, digits.len()) as usize)
+// The length of so many hexadecimal digits that stands at a place of a line.
+fn read_len(line: &[u8], at: usize, width: usize) -> Option<usize>
+    requires few { width ≤ 16 }
+    requires room { at + width ≤ length line.now }
+    ensures { IfSome result (λ len. len ≡ field at width line.now) }
+{
+    all_digits(&line[at..at + width]).then(|| number(line, at, width) as usize)
 }
 
 // A case: its line, and what lies behind it.
 fn read_case<'a>(line: &'a [u8], behind: &'a [u8]) -> Option<(Case<'a>, &'a [u8])>
-    ensures { IfSome result (λ parts. length parts.1.now ≤ length behind.now) }
+    ensures case { IfSome result (λ parts. IsCase line.now behind.now parts.0 parts.1.now) }
+    ensures fewer { IfSome result (λ parts. length parts.1.now ≤ length behind.now) }
 {
     if line.len() < NAME_AT {
         return None;
     }
-    let image_len = read_len(&line[IMAGE_AT..IMAGE_AT + IMAGE_DIGITS])?;
-    let answer_len = read_len(&line[ANSWER_AT..ANSWER_AT + ANSWER_DIGITS])?;
+    let image_len = read_len(line, IMAGE_AT, IMAGE_DIGITS)?;
+    let answer_len = read_len(line, ANSWER_AT, ANSWER_DIGITS)?;
     let (image, behind) = behind.split_at_checked(image_len)?;
     let (answer, rest) = behind.split_at_checked(answer_len)?;
     let source = if line[3] == b'r' {
@@ -70,7 +77,8 @@ fn read_case<'a>(line: &'a [u8], behind: &'a [u8]) -> Option<(Case<'a>, &'a [u8]
 
 // The first record and what lies behind it, unless it is malformed.
 pub fn first(all: &[u8]) -> Option<(Record<'_>, &[u8])>
-    ensures { IfSome result (λ parts. length parts.1.now < length all.now) }
+    ensures first { IfSome result (λ parts. IsFirst all.now parts.0 parts.1.now) }
+    ensures fewer { IfSome result (λ parts. length parts.1.now < length all.now) }
 {
     let (line, behind) = split_line(all)?;
     if line.starts_with(b"-- ") {
