@@ -1,6 +1,7 @@
 // What stops a run, what refuses a call, and how a run ends. Each has its number in document 01, 'Ends and numbers':
 // the constants below, which stand once (a discriminant would say them again), and the definitions of specs/Table.antt. It is asked for by
-// `number`, and not by `u64::from`: of an end, which has a number, a `pc` and `steps`, that would not say which of the three.
+// `number`, and not by `u64::from`: an end has a number, a `pc` and `steps`, and that would not say which; an anomaly and a refusal, which a
+// run's answer has in the end's place, are asked in the same word, and another would be no plainer.
 #![tactic(auto)]
 
 ghost use Rattle.std.specs.Prelude.{◌≡◌};

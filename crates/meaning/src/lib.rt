@@ -229,7 +229,7 @@ fn effect_of(op: Op, regs: &[u64; 32], image: &Image) -> Effect
 pub fn word_effect(w: u64, regs: &[u64; 32], image: &Image) -> Effect
     ensures { result ≡ word_effect image.now regs.now (decode_of w) }
 {
-    // by `let .. else`, and no `?`: document 01, 'each decoded or refused before use'
+    // by `let .. else`, and no `?`: a form that document 01 names ('The shape each place takes')
     let decoded = decoder::decode(w);
     let Ok(op) = decoded else {
         return Effect::Stop(Stop::Refused(decoded.unwrap_err()));

@@ -42,6 +42,14 @@ impl TryFrom<usize> for Reg {
     }
 }
 
+impl From<Reg> for usize {
+    ghost from_gives = { λ register n. n ≡ register };
+
+    fn from(register: Reg) -> usize {
+        usize::from(register.number)
+    }
+}
+
 impl Reg {
     pub(crate) fn new(number: usize) -> Reg
         requires { number < 32 }
@@ -52,21 +60,15 @@ impl Reg {
         }
     }
 
-    pub fn number(self) -> usize
-        ensures { result ≡ self }
-    {
-        usize::from(self.number)
-    }
-
     pub fn read(self, regs: &[u64; 32]) -> u64
         ensures { result ≡ slice_index regs.now self }
     {
-        regs[self.number()]
+        regs[usize::from(self)]
     }
 
     pub fn write(self, regs: &mut [u64; 32], value: u64)
         ensures { regs.new ≡ slice_set regs.old self value }
     {
-        regs[self.number()] = value;
+        regs[usize::from(self)] = value;
     }
 }

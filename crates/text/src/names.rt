@@ -76,7 +76,7 @@ impl<'a> Iterator for Names<'a> {
     ghost remaining = { item_count names_left };
 
     fn next(&mut self) -> Option<Named<'a>> {
-        // in a `for` over `self.lines.by_ref()` the loop's invariant has no `self` to speak of
+        // a `for` over `self.lines.by_ref()` was tried: its invariant has no `self` to speak of, and the proof did not close
         while let Some(line) = self.lines.next() {
             let global = self.globals;
             self.globals += globals_on(line);

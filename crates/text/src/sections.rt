@@ -101,7 +101,8 @@ impl<'a> Numbers<'a> {
         requires { at + length (numbers_left self) < 2 ^ 64 }
         ensures { Written buf.old at (numbers_left self.entry) buf.new result }
     {
-        // counted beside the `for`: the place behind them is answered, past the buffer's end too, and `(at..).zip(self)` does not tell it
+        // counted beside the `for`: the place behind them is answered, past the buffer's end too; `(at..).zip(self)` does not tell it, and with
+        // it the proof did not close
         let mut n = at;
         for number in self {
             put_at(buf, n, number);
@@ -169,7 +170,7 @@ impl Section {
     ghost use Rattle.text.specs.Left.{numbers_left};
     ghost use Rattle.text.specs.Sections.{adds};
 
-    // What a line adds to the section, where the tables up to it have so many entries.
+    // What a line adds to the section, where the tables up to it have so many entries. One match, since the sections are a closed set.
     #[tactic(auto, unfolding(crate::specs::Sections::adds))]
     fn numbers<'a>(self, line: &'a [u8], ends: Ends) -> Numbers<'a>
         ensures { numbers_left result
