@@ -13,7 +13,7 @@ use borrow.Author.Tests.{leb-true, eqb-true}
 use Rattle.std.specs.Prelude as std
 use Rattle.std.specs.Option.{MatchOption}
 use Rattle.memory.proofs.Tests.{both}
-use Rattle.program.specs.Image.{Image, rising, tables_fit, tables_ok, image_ok, image_tests, failing}
+use Rattle.program.specs.Image.{Image, rising, tables_fit, tables_ok, image_ok, sizes_fit, image_tests, failing}
 use Rattle.program.specs.Words.{between, fits, cut, image_in, Ordered}
 use Rattle.program.proofs.Entries.{rising_to, rising_at, rising-on}
 
@@ -124,50 +124,6 @@ outside false b c d = refl
 outside true false c d = refl
 outside true true c d = refl
 
--- ---- the tests of 10, one by one
-
-grouped : (a b c : Bool) → (a && b) ≡ true → (a && (b && c)) ≡ c
-grouped true true c e = refl
-grouped true false c e = absurd (true≢false (sym e))
-grouped false b c e = absurd (true≢false (sym e))
-
-ungrouped : (a b c : Bool) → (a && b) ≡ false → (a && (b && c)) ≡ false
-ungrouped true false c e = refl
-ungrouped false b c e = refl
-ungrouped true true c e = absurd (true≢false e)
-
-module _ (im : Image) where
-  abbrev few : Bool
-  few = leb (length im.code) 65536 && leb (length im.globals) 4096
-
-  abbrev defaulted : Bool
-  defaulted = eqb (length im.defaults) (length im.lookups.firsts)
-
-  pub too_many : few ≡ false → image_ok im ≡ false
-  unfolding image_ok
-  too_many e = ungrouped (leb (length im.code) 65536) (leb (length im.globals) 4096) _ e
-
-  module _ (e : few ≡ true) where
-    tables-decide : image_ok im ≡ (tables_ok im.switches && (tables_ok im.lookups && defaulted))
-    unfolding image_ok
-    tables-decide = grouped (leb (length im.code) 65536) (leb (length im.globals) 4096) _ e
-
-    pub no_switches : tables_ok im.switches ≡ false → image_ok im ≡ false
-    no_switches s = tables-decide ∙ rw s refl
-
-    module _ (s : tables_ok im.switches ≡ true) where
-      pub no_lookups : tables_ok im.lookups ≡ false → image_ok im ≡ false
-      no_lookups l = tables-decide ∙ rw (s, l) refl
-
-      module _ (l : tables_ok im.lookups ≡ true) where
-        defaults-decide : (b : Bool) → defaulted ≡ b → image_ok im ≡ b
-        defaults-decide b d = tables-decide ∙ rw (s, l, d) refl
-
-        pub image_made : (r : std.Option Image) → MatchOption r (defaulted ≡ false) (λ x. (defaulted ≡ true) × (x ≡ im))
-            → MatchOption r (image_ok im ≡ false) (λ x. (image_ok x ≡ true) × (x ≡ im))
-        image_made std.None d = defaults-decide false d
-        image_made (std.Some x) d = (rw d.1 (defaults-decide true d.0), d.1)
-
 -- ---- the sizes of sections
 
 module _ (im : Image) where
@@ -191,6 +147,49 @@ module _ (im : Image) where
       rw (regroup switches_fit _ lookups_fit _ _)
       (outside (leb (length im.code) 65536) (leb (length im.globals) 4096)
       (switches_fit && (lookups_fit && eqb (length im.defaults) (length im.lookups.firsts))) risen)
+
+-- ---- the tests of 10, one by one
+
+grouped : (a b c : Bool) → (a && b) ≡ true → (a && (b && c)) ≡ c
+grouped true true c e = refl
+grouped true false c e = absurd (true≢false (sym e))
+grouped false b c e = absurd (true≢false (sym e))
+
+module _ (im : Image) where
+  abbrev few : Bool
+  few = leb (length im.code) 65536 && leb (length im.globals) 4096
+
+  abbrev defaulted : Bool
+  defaulted = eqb (length im.defaults) (length im.lookups.firsts)
+
+  pub too_long_section : sizes_fit im ≡ false → image_ok im ≡ false
+  too_long_section e = sizes_then_ends im ∙ rw e refl
+
+  module _ (sizes : sizes_fit im ≡ true) where
+    e : few ≡ true
+    e =
+        let code = both (leb (length im.code) 65536) _ sizes in
+        rw (code.0, (both (leb (length im.globals) 4096) _ code.1).0) refl
+
+    tables-decide : image_ok im ≡ (tables_ok im.switches && (tables_ok im.lookups && defaulted))
+    unfolding image_ok
+    tables-decide = grouped (leb (length im.code) 65536) (leb (length im.globals) 4096) _ e
+
+    pub no_switches : tables_ok im.switches ≡ false → image_ok im ≡ false
+    no_switches s = tables-decide ∙ rw s refl
+
+    module _ (s : tables_ok im.switches ≡ true) where
+      pub no_lookups : tables_ok im.lookups ≡ false → image_ok im ≡ false
+      no_lookups l = tables-decide ∙ rw (s, l) refl
+
+      module _ (l : tables_ok im.lookups ≡ true) where
+        defaults-decide : (b : Bool) → defaulted ≡ b → image_ok im ≡ b
+        defaults-decide b d = tables-decide ∙ rw (s, l, d) refl
+
+        pub image_made : (r : std.Option Image) → MatchOption r (defaulted ≡ false) (λ x. (defaulted ≡ true) × (x ≡ im))
+            → MatchOption r (image_ok im ≡ false) (λ x. (image_ok x ≡ true) × (x ≡ im))
+        image_made std.None d = defaults-decide false d
+        image_made (std.Some x) d = (rw d.1 (defaults-decide true d.0), d.1)
 
 module _ (ws : List ℕ) (o : Ordered ws) where
   -- the sizes of the sections, by their ends

@@ -86,6 +86,15 @@ image_ok im =
     && (tables_ok im.lookups
     && eqb (length im.defaults) (length im.lookups.firsts))))
 
+-- the part of it that the lengths of sections decide
+abbrev pub sizes_fit : Image → Bool
+sizes_fit im =
+    leb (length im.code) 65536
+    && (leb (length im.globals) 4096
+    && (tables_fit (length im.switches.firsts) (length im.switches.ends) (length im.switches.entries)
+    && (tables_fit (length im.lookups.firsts) (length im.lookups.ends) (length im.lookups.entries)
+    && eqb (length im.defaults) (length im.lookups.firsts))))
+
 -- 11: 'code not empty, byte 0 of the last word isn't 59'
 unfoldable pub ends_in_halt : List ℕ → Bool
 ends_in_halt [] = true

@@ -1,7 +1,7 @@
 // An image, cut into its sections, whose tables can be read.
 ghost use Rattle.std.specs.Prelude.{◌≡◌, ◌<◌, ◌==◌, true, false, length, IfOk};
 ghost use Rattle.std.specs.Option.{MatchOption};
-ghost use Rattle.program.specs.Image.{tables_of, tables_ok, image_of, image_ok, image_tests, failing, refused_with, IsTable, start_of, counts};
+ghost use Rattle.program.specs.Image.{tables_of, tables_ok, image_of, image_ok, sizes_fit, image_tests, failing, refused_with, IsTable, start_of, counts};
 ghost use Rattle.program.specs.Words.{cut, image_in, Cuts, Ordered};
 
 use crate::loader::{below, ends_in_halt, fits, rising, tables_fit, words_ok};
@@ -139,6 +139,25 @@ impl<'a> Sections<'a> {
             defaults: &words[defaults..end],
         }
     }
+
+    // Whether every section is as long as it may be. No word of one is read for it.
+    fn sizes_ok(&self) -> bool
+        ensures { result ≡ sizes_fit self.now }
+    {
+        let switches = tables_fit(
+            self.switch_firsts.len(),
+            self.switch_ends.len(),
+            self.switch_entries.len(),
+        );
+        let lookups = tables_fit(
+            self.lookup_firsts.len(),
+            self.lookup_ends.len(),
+            self.lookup_entries.len(),
+        );
+        (self.code.len() <= MAX_CODE)
+            & ((self.globals.len() <= MAX_GLOBALS)
+                & (switches & (lookups & (self.defaults.len() == self.lookup_firsts.len()))))
+    }
 }
 
 // An image whose tables are in order, each `Lookup` table with its default. `load` makes it of words that pass every test.
@@ -188,13 +207,14 @@ impl<'a> Image<'a> {
         })
     }
 
-    // The image that is cut out of words, unless 10 refuses it.
+    // The image that is cut out of words, unless 10 refuses it: first for the length of any section, so that no end of a table is read of
+    // words that may not be there.
     fn cut(words: &'a [u64]) -> Option<Image<'a>>
         ensures { MatchOption result (image_ok (image_in words.now) ≡ false) (λ im.
             (image_ok im ≡ true) × (im ≡ image_in words.now)) }
     {
         let sections = Sections::cut(words)?;
-        if !((sections.code.len() <= MAX_CODE) & (sections.globals.len() <= MAX_GLOBALS)) {
+        if !sections.sizes_ok() {
             return None;
         }
         let switches = Tables::new(
