@@ -1,6 +1,6 @@
 // The machine's calls for C and Rust: include/girzhanok.h says what each one takes and writes. A call on too few words is refused with 10.
-// Each takes the words of the state, does the call and answers by it, in lines of its own: of a step between that were taken as a closure it would not
-// be known what it leaves in the buffers.
+// Each takes the words of the state, does the call and answers by it, in lines of its own: of a step between that were taken as a
+// closure it would not be known what it leaves in the buffers.
 #![tactic(auto)]
 
 ghost use Rattle.std.specs.Prelude.{◌≡◌, [], ◌∷◌};

@@ -13,8 +13,8 @@ use text::names::Names;
 use text::sections::Section;
 use vm::State;
 
-// Every name in line order, its value the next global; the first that is refused ends it. `name` holds the bytes of one. The buffers are lent one by one, as
-// to an interning.
+// Every name in line order, its value the next global; the first that is refused ends it. `name` holds the bytes of one. The buffers
+// are lent one by one, as to an interning.
 pub fn intern_names(
     input: &[u8],
     state: &mut State,

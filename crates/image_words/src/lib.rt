@@ -32,8 +32,8 @@ fn put_section(input: &[u8], section: Section, words: &mut [u64], at: usize) -> 
     at + gather(input, section, &mut words[at..])
 }
 
-// An image's sections behind their ends; the number of its words. The words are lent, and no list is answered: the runner's rating allocates nothing,
-// and they go on to the machine.
+// An image's sections behind their ends; the number of its words. The words are lent, and no list is answered: the runner's rating
+// allocates nothing, and they go on to the machine.
 pub fn join(input: &[u8], words: &mut [u64]) -> usize
     requires { length (joined (image_said input.now)) ≤ length words.old }
     ensures { (result ≡ length (joined (image_said input.now)))

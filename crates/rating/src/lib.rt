@@ -16,8 +16,8 @@ use report::Text;
 use text::Head;
 use vm::start;
 
-// Starts an image, interns its names, runs it and answers the report, or what refuses it. `words` are its sections joined, the buffers as the header asks for,
-// lent one by one: of a struct of them the second call that is lent two beside a third gets no proof.
+// Starts an image, interns its names, runs it and answers the report, or what refuses it. `words` are its sections joined, the buffers
+// as the header asks for, lent one by one: of a struct of them the second call that is lent two beside a third gets no proof.
 pub fn rate(
     input: &[u8],
     head: Head,
