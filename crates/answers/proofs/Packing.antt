@@ -3,10 +3,11 @@ use mathlib.Core.Path.{◌≡◌, refl, sym, ap, ◌∙◌}
 use Prim.Native.Nat.{ℕ, ◌+◌, ◌≤◌}
 use mathlib.Core.List.{List, [], ◌∷◌, ◌++◌, append_assoc}
 use native.Mathlib.Omega.{arith}
-use lib.ListN.{length, take, drop, get_or, set, length-append, length-drop, length-set, drop_of_length-le}
+use lib.ListN.{length, take, drop, get_or, set, length-append, length-drop, length-set}
 use lib.Seq.{take-suc, take_at, get_or-append-add, length-take-le}
 use borrow.Rule.Slice.PartMut.{put_mid}
-use Rattle.std.proofs.lemmas.List.{take-set-le, get_or-set_same, get_or-set_other}
+use Rattle.std.proofs.lemmas.List.{take-set-le, get_or-set_same, get_or-set_other, drop-drop, drop-set-lt}
+use Rattle.std.proofs.lemmas.Slice.{drop-append-drop}
 use Rattle.memory.specs.Lists.{over}
 use Rattle.memory.proofs.Over.{over-take, over-is}
 use Rattle.vm.specs.declared.State.{State}
@@ -41,45 +42,55 @@ packed-unpacked w room =
       take-suc w 32 0 (omega arith),
     ) (simp append_assoc))
 
--- a state written over forty words is all of them
-whole : (s : State) (w : List ℕ) → length s.regs ≡ 32 → length w ≡ 40 → over (packed s) w ≡ packed s
-whole s w regs long = over_whole (packed s) w (length-packed s regs ∙ sym long)
+-- a state written over words: what lies behind it stays
+over_packed : (s : State) (w : List ℕ) → length s.regs ≡ 32 → state_words ≤ length w → over (packed s) w ≡ packed s ++ drop state_words w
+over_packed s w regs room =
+    let size : length (packed s) ≡ state_words = length-packed s regs in
+    over-is (packed s) w (rw size room) ∙ ap (λ (n : ℕ). packed s ++ drop n w) size
 
-registers : (w : List ℕ) → length w ≡ 40 → length (unpacked w).regs ≡ 32
+registers : (w : List ℕ) → state_words ≤ length w → length (unpacked w).regs ≡ 32
 unfolding unpacked
-registers w long = length-take-le 32 w (omega arith)
+registers w room = length-take-le 32 w (omega arith)
 
 -- other numbers of heap and table, written over their own words
-pub names-home : (w v : List ℕ) (n : Names) → length w ≡ 40 → v ≡ names n.gc n.strings
+pub names-home : (w v : List ℕ) (n : Names) → state_words ≤ length w → v ≡ names n.gc n.strings
     → put_mid 34 6 w v ≡ over (packed (in_state (unpacked w) n)) w
 unfolding packed unpacked
-names-home w v n long e =
+names-home w v n room e =
     let front : packed (in_state (unpacked w) n) ≡ take 34 w ++ names n.gc n.strings =
     sym (rw (take-suc w 33 0 (omega arith), take-suc w 32 0 (omega arith)) (simp append_assoc)) in
-    let few : length (drop 34 w) ≤ 6 = rw length-drop (omega arith) in
-    let none : drop 6 (drop 34 w) ≡ [] = drop_of_length-le (drop 34 w) few in
-    rw (e, none) (sym (whole (in_state (unpacked w) n) w (registers w long) long ∙ front))
+    rw (e, drop-drop 6 34 w)
+    (sym (over_packed (in_state (unpacked w) n) w (registers w room) room ∙ ap (λ (r : List ℕ). r ++ drop 40 w) front
+    ∙ append_assoc (take 34 w) (names n.gc n.strings) (drop 40 w)))
 
 -- a state, of which registers, pc and depth are there and the numbers of heap and table are written last
-module _ (s : State) (d w : List ℕ) (regs : length s.regs ≡ 32) (rest : length d ≡ 8) (long : length w ≡ 40) where
+module _ (s : State) (w : List ℕ) (regs : length s.regs ≡ 32) (room : state_words ≤ length w) where
   abbrev begun : List ℕ
-  begun = set (set (s.regs ++ d) 32 s.pc) 33 s.depth
+  begun = set (set (s.regs ++ drop 32 w) 32 s.pc) 33 s.depth
 
-  begun_long : length begun ≡ 40
-  begun_long = rw (length-set, length-set, length-append) (omega arith)
+  first_room : state_words ≤ length (s.regs ++ drop 32 w)
+  first_room = rw (length-append, length-drop, regs) (omega arith)
+
+  pub begun_room : state_words ≤ length begun
+  begun_room = rw (length-set, length-set) first_room
 
   pub packed-home : over (packed (in_state (unpacked begun) (names_of s))) begun ≡ over (packed s) w
   unfolding packed unpacked
   packed-home =
-      let room : length (s.regs ++ d) ≡ 40 = rw length-append (omega arith) in
+      let all = s.regs ++ drop 32 w in
+      let wide : 40 ≤ length all = first_room in
       let first : take 32 begun ≡ s.regs =
-      take-set-le 32 (set (s.regs ++ d) 32 s.pc) 33 s.depth (omega arith) ∙ take-set-le 32 (s.regs ++ d) 32 s.pc (omega arith)
-      ∙ take_at s.regs d 32 regs in
+      take-set-le 32 (set all 32 s.pc) 33 s.depth (omega arith) ∙ take-set-le 32 all 32 s.pc (omega arith)
+      ∙ take_at s.regs (drop 32 w) 32 regs in
       let second : get_or begun 32 0 ≡ s.pc =
-      get_or-set_other (set (s.regs ++ d) 32 s.pc) 33 32 s.depth 0 (λ e. omega arith) ∙ get_or-set_same (s.regs ++ d) 32 s.pc 0 (omega arith) in
-      let third : get_or begun 33 0 ≡ s.depth = get_or-set_same (set (s.regs ++ d) 32 s.pc) 33 s.depth 0 (rw length-set (omega arith)) in
+      get_or-set_other (set all 32 s.pc) 33 32 s.depth 0 (λ e. omega arith) ∙ get_or-set_same all 32 s.pc 0 (omega arith) in
+      let third : get_or begun 33 0 ≡ s.depth = get_or-set_same (set all 32 s.pc) 33 s.depth 0 (rw length-set (omega arith)) in
       let same : packed (in_state (unpacked begun) (names_of s)) ≡ packed s = rw (first, second, third) refl in
-      whole (in_state (unpacked begun) (names_of s)) begun (registers begun begun_long) begun_long ∙ same ∙ sym (whole s w regs long)
+      let behind : drop 40 begun ≡ drop 40 w =
+      drop-set-lt 40 (set all 32 s.pc) 33 s.depth (omega arith) ∙ drop-set-lt 40 all 32 s.pc (omega arith)
+      ∙ drop-append-drop 32 w s.regs 40 (omega arith) regs in
+      over_packed (in_state (unpacked begun) (names_of s)) begun (registers begun begun_room) begun_room
+      ∙ rw (same, behind) (sym (over_packed s w regs room))
 
 -- 'unchanged': the state that words hold, written over them
 pub pack_unpack : (w : List ℕ) → state_words ≤ length w → over (packed (unpacked w)) w ≡ w

@@ -1,20 +1,21 @@
 // What a call returns and writes: its number, the words of the state, and what is answered beside the number.
 #![tactic(auto)]
 
-ghost use Rattle.std.specs.Prelude.{◌≡◌, [], ◌∷◌};
+ghost use Rattle.std.specs.Prelude.{◌≡◌, ◌≤◌, length, [], ◌∷◌};
 ghost use Rattle.vm.specs.Machine.{value, done};
 ghost use Rattle.vm.specs.Told.{answer_by, answer_of};
-ghost use Rattle.answers.specs.Words.{unpacked};
+ghost use Rattle.answers.specs.Words.{state_words, unpacked};
 ghost use Rattle.answers.specs.Answered.{number_of, answered, kept};
 
 pub mod words;
 
 use anomaly::{End, Refusal, Steps};
 use vm::State;
-use words::{Pack, Words};
+use words::Pack;
 
 // The number of what a call answers. What it left is written into the words of the state unless it was refused.
-pub fn answer<P: Pack>(called: Result<(), Refusal>, left: P, words: &mut Words) -> u64
+pub fn answer<P: Pack>(called: Result<(), Refusal>, left: P, words: &mut [u64]) -> u64
+    requires { state_words ≤ length words.old }
     ensures number { result ≡ number_of (answer_by (λ _. done) called) }
     ensures kept { words.new ≡ kept (answer_by (λ _. done) called) (P.leaves left (unpacked words.old)) words.old }
 {
@@ -32,9 +33,10 @@ pub fn answer<P: Pack>(called: Result<(), Refusal>, left: P, words: &mut Words) 
 pub fn answer_value<P: Pack>(
     called: Result<u64, Refusal>,
     left: P,
-    words: &mut Words,
+    words: &mut [u64],
     to: &mut u64,
 ) -> u64
+    requires { state_words ≤ length words.old }
     ensures number { result ≡ number_of (answer_by value called) }
     ensures kept { words.new ≡ kept (answer_by value called) (P.leaves left (unpacked words.old)) words.old }
     ensures answered { to.new ∷ [] ≡ answered (answer_by value called) (to.old ∷ []) }
@@ -50,10 +52,11 @@ pub fn answer_value<P: Pack>(
 pub fn answer_run(
     called: Result<End, Refusal>,
     state: State,
-    words: &mut Words,
+    words: &mut [u64],
     pc: &mut usize,
     steps: &mut Steps,
 ) -> u64
+    requires { state_words ≤ length words.old }
     ensures number { result ≡ number_of (answer_by answer_of called) }
     ensures kept { words.new ≡ kept (answer_by answer_of called) state words.old }
     ensures answered { pc.new ∷ steps.new ∷ [] ≡ answered (answer_by answer_of called) (pc.old ∷ steps.old ∷ []) }

@@ -1,20 +1,18 @@
 // A state in 64-bit words: registers 0 to 31, pc, depth; the heap's base, pushed bytes, last page and its length; active slots, names.
-ghost use Rattle.std.specs.Prelude.{◌≡◌};
+ghost use Rattle.std.specs.Prelude.{◌≡◌, ◌≤◌, length};
 ghost use Rattle.memory.specs.Lists.{over};
 ghost use Rattle.vm.specs.declared.State.{State};
 ghost use Rattle.names.specs.Interned.{names_of, in_state};
-ghost use Rattle.answers.specs.Words.{packed, unpacked};
+ghost use Rattle.answers.specs.Words.{state_words, packed, unpacked};
 
 use gc::Gc;
 use names::interner::Names;
 use str_table::StrTable;
 use vm::State;
 
-// The words of a state.
-pub type Words = [u64; 40];
-
 // The numbers of heap and table, in words 34 to 39.
-pub fn unpack_names(words: &Words) -> Names
+pub fn unpack_names(words: &[u64]) -> Names
+    requires { state_words ≤ length words.now }
     ensures { result ≡ names_of (unpacked words.now) }
 {
     Names {
@@ -31,7 +29,8 @@ pub fn unpack_names(words: &Words) -> Names
     }
 }
 
-pub fn unpack(words: &Words) -> State
+pub fn unpack(words: &[u64]) -> State
+    requires { state_words ≤ length words.now }
     ensures { result ≡ unpacked words.now }
 {
     let mut regs = [0; 32];
@@ -51,14 +50,16 @@ pub trait Pack: Copy {
     // the state that this leaves, of the one from before
     ghost leaves: { Self → State → State };
 
-    fn pack(self, words: &mut Words)
+    // Words past those of the state stay as they are: so a slice of 40 or more, and no array.
+    fn pack(self, words: &mut [u64])
+        requires { state_words ≤ length words.old }
         ensures { words.new ≡ over (packed (leaves self (unpacked words.old))) words.old };
 }
 
 impl Pack for State {
     ghost leaves = { λ state before. state };
 
-    fn pack(self, words: &mut Words) {
+    fn pack(self, words: &mut [u64]) {
         words[..32].copy_from_slice(&self.regs);
         words[32] = self.pc as u64;
         words[33] = self.depth as u64;
@@ -69,9 +70,9 @@ impl Pack for State {
 impl Pack for Names {
     ghost leaves = { λ names before. in_state before names };
 
-    fn pack(self, words: &mut Words) {
+    fn pack(self, words: &mut [u64]) {
         let Names { gc, strings } = self;
-        words[34..].copy_from_slice(&[
+        words[34..40].copy_from_slice(&[
             gc.base,
             gc.pushed as u64,
             gc.page as u64,

@@ -1,13 +1,22 @@
 -- `answers::words::StatePack::pack` meets its contract. Assumes nothing.
-use mathlib.Core.Path.{◌≡◌, ◌∙◌}
-use lib.ListN.{length, length-drop}
+use mathlib.Core.Path.{◌≡◌, sym, ◌∙◌}
 use native.Mathlib.Omega.{arith}
+use lib.ListN.{length}
+use lib.Seq.{length-take-le}
 use borrow.Author.Rules.{rules}
 use Rattle.answers.proofs.Packing.{packed-home}
 use Rattle.answers.proofs.words.StatePack.pack.Goals as goal
+
+pub slice_bounds-copy_from_slice-end-2 : goal.slice_bounds-copy_from_slice-end-2
+slice_bounds-copy_from_slice-end-2 c = sym (length-take-le 32 c.args.words.now (omega arith))
+
+pub copy_from_slice-requires : goal.copy_from_slice-requires
+copy_from_slice-requires c =
+    let long : length c.args.self.regs ≡ 32 = search rules in
+    length-take-le 32 c.args.words.now (omega arith) ∙ sym long
 
 pub returns : goal.returns
 returns c =
     let long : length c.args.self.regs ≡ 32 = search rules in
     (rw (c.copy_from_slice.ensures.after, c.from.ensures) at c.pack.ensures)
-    ∙ packed-home c.args.self _ c.args.words.now long (length-drop 32 c.args.words.now ∙ omega arith) (search rules)
+    ∙ packed-home c.args.self c.args.words.now long c.requires
