@@ -2,7 +2,7 @@
 use Rattle.std.proofs.Common.{◌≡◌, ℕ, ◌+◌, ◌%◌, ◌^◌, ◌<◌, ◌≤◌, refl, arith, le-ltb, lt-ltb}
 use Rattle.effects.specs.declared.Effect.{Effect}
 use Rattle.effects.specs.declared.Effect.TheVariants as effect
-use Rattle.effects.specs.declared.Stop.TheVariants as stop
+use Rattle.effects.specs.Stops.{unlisted}
 use Rattle.effects.specs.Effect.{minus, within}
 
 -- a difference modulo 2 ^ 64, by what std::num says of it
@@ -16,6 +16,6 @@ module _ (i n : ℕ) (e : Effect) where
   unfolding within
   inside h = rw (lt-ltb i n h) refl
 
-  pub outside : n ≤ i → effect.Stop stop.Unlisted ≡ within i n e
+  pub outside : n ≤ i → effect.Unlisted unlisted ≡ within i n e
   unfolding within
   outside h = rw (le-ltb i n h) refl

@@ -38,6 +38,7 @@ EffectOk n (effect.Load dst base offset) = dst < 32
 EffectOk n (effect.Store base offset v) = Unit {0}
 EffectOk n (effect.Alloc kind dst size) = dst < 32
 EffectOk n (effect.Stop why) = IsAnomaly why
+EffectOk n (effect.Unlisted number) = ⊥
 EffectOk n effect.Halt = Unit {0}
 
 -- an anomaly's number is listed
@@ -50,7 +51,6 @@ anomaly_listed (stop.Anomaly BadAddress) a = refl
 anomaly_listed (stop.Anomaly QuotientOverflow) a = refl
 anomaly_listed (stop.Anomaly FrameUnderflow) a = refl
 anomaly_listed (stop.Refused why) a = absurd a
-anomaly_listed stop.Unlisted a = absurd a
 
 pub ends_listed : (n : ℕ) (e : Effect) → EffectOk n e → EndsListed e
 ends_listed n (effect.Set dst v) o = tt
@@ -62,6 +62,7 @@ ends_listed n (effect.Load dst base offset) o = tt
 ends_listed n (effect.Store base offset v) o = tt
 ends_listed n (effect.Alloc kind dst size) o = tt
 ends_listed n (effect.Stop why) o = o
+ends_listed n (effect.Unlisted number) o = o
 ends_listed n effect.Halt o = tt
 
 either : (n : ℕ) (b : Bool) (x y : Effect) → (b ≡ true → EffectOk n x) → (b ≡ false → EffectOk n y) → EffectOk n (cond b x y)

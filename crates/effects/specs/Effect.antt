@@ -14,6 +14,7 @@ use Rattle.anomaly.specs.declared.Anomaly.TheVariants.{DivisionByZero, QuotientO
 use Rattle.op.specs.declared.Keys.{Keys}
 use Rattle.op.specs.declared.Keys.TheVariants.{Str, Int}
 use Rattle.effects.specs.declared.Stop.TheVariants as stop
+use Rattle.effects.specs.Stops.{unlisted}
 use Rattle.effects.specs.declared.Effect.{Effect}
 use Rattle.effects.specs.declared.Effect.TheVariants as effect
 use Rattle.program.specs.Image.{Image, entries_of}
@@ -43,7 +44,7 @@ jump_if b target = cond b (effect.Goto target) effect.Skip
 
 -- a read at i of n places, and what it gives
 unfoldable pub within : ℕ → ℕ → Effect → Effect
-within i n e = cond (nat_lt i n) e (effect.Stop stop.Unlisted)
+within i n e = cond (nat_lt i n) e (effect.Unlisted unlisted)
 
 -- the slot of a subject: 'Subject first−1 falls through': the difference wraps. Keys of Str lie 4 apart
 unfoldable pub slot : Keys → ℕ → ℕ → ℕ

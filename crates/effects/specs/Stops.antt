@@ -13,13 +13,11 @@ unlisted = 255
 abbrev pub number_of_stop : Stop → ℕ
 number_of_stop (stop.Anomaly why) = number_of_anomaly why
 number_of_stop (stop.Refused why) = number_of_refusal why
-number_of_stop stop.Unlisted = unlisted
 
 -- an effect that ends a run by an anomaly, if by a number
 abbrev pub IsAnomaly : Stop → Type 0
 IsAnomaly (stop.Anomaly why) = Unit {0}
 IsAnomaly (stop.Refused why) = ⊥
-IsAnomaly stop.Unlisted = ⊥
 
 abbrev pub EndsListed : Effect → Type 0
 EndsListed (effect.Set dst v) = Unit {0}
@@ -31,4 +29,5 @@ EndsListed (effect.Load dst base offset) = Unit {0}
 EndsListed (effect.Store base offset v) = Unit {0}
 EndsListed (effect.Alloc kind dst size) = Unit {0}
 EndsListed (effect.Stop why) = IsAnomaly why
+EndsListed (effect.Unlisted number) = ⊥
 EndsListed effect.Halt = Unit {0}

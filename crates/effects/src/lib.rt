@@ -13,8 +13,6 @@ pub enum Stop {
     Anomaly(Anomaly),
     // The word is no instruction. No run that is not refused comes to it.
     Refused(Refusal),
-    // A read outside the globals or the tables. No run that is not refused comes to it.
-    Unlisted,
 }
 
 // What an instruction asks for, once its registers are read.
@@ -48,5 +46,9 @@ pub enum Effect {
         size: u64,
     },
     Stop(Stop),
+    // An end by any other number, as of a read outside the globals or the tables. No run that is not refused comes to it.
+    Unlisted {
+        number: u64,
+    },
     Halt,
 }

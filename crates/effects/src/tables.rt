@@ -3,10 +3,15 @@ ghost use Rattle.std.specs.Prelude.{◌≡◌, length, slice_index, slice_index_
 ghost use Rattle.program.specs.Image.{entries_of};
 ghost use Rattle.effects.specs.Effect.{within, slot, switched};
 
-use crate::{Effect, Stop};
+use crate::Effect;
 use op::{Keys, Reg};
 use program::Tables;
 use string::ALIGN;
+
+// The end of a read outside the globals or the tables. No run that is not refused comes to it.
+const UNLISTED: u64 = 255;
+
+const OUTSIDE: Effect = Effect::Unlisted { number: UNLISTED };
 
 #[tactic(auto, unfolding(crate::specs::Effect::within))]
 pub fn load_global(dst: Reg, idx: usize, globals: &[u64]) -> Effect
@@ -14,7 +19,7 @@ pub fn load_global(dst: Reg, idx: usize, globals: &[u64]) -> Effect
 {
     match globals.get(idx) {
         Some(&value) => Effect::Set { dst, value },
-        None => Effect::Stop(Stop::Unlisted),
+        None => OUTSIDE,
     }
 }
 
@@ -37,7 +42,7 @@ pub fn switch(keys: Keys, subject: u64, table: usize, switches: &Tables) -> Effe
         (slot keys subject (slice_index switches.now.firsts table))) }
 {
     let Some((first, targets)) = switches.get(table) else {
-        return Effect::Stop(Stop::Unlisted);
+        return OUTSIDE;
     };
     match targets.get(slot(keys, subject, first) as usize) {
         Some(&target) => Effect::Goto {
@@ -62,7 +67,7 @@ pub fn lookup(
         (slot keys subject (slice_index lookups.now.firsts table)) (slice_index defaults.now table))) }
 {
     let Some((first, values)) = lookups.get(table) else {
-        return Effect::Stop(Stop::Unlisted);
+        return OUTSIDE;
     };
     let value = match values.get(slot(keys, subject, first) as usize) {
         Some(&value) => value,

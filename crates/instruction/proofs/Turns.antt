@@ -194,6 +194,10 @@ module _ (s : State) (at : Position) (regs : List ℕ) (l : Lent) (fit : Fitting
   unfolding turn apply limited
   turn-stop why = stays (number_of_stop why)
 
+  pub turn_unlisted : (number : ℕ) → turn (effect.Unlisted number) m ≡ stopped number m
+  unfolding turn apply limited
+  turn_unlisted number = stays number
+
   pub turn-halt : turn effect.Halt m ≡ record { how = halts; machine = m }
   unfolding turn apply limited turned
   turn-halt = refl

@@ -9,7 +9,7 @@ use Rattle.effects.specs.Stops.{number_of_stop, IsAnomaly}
 use Rattle.vm.specs.declared.State.{State}
 use Rattle.instruction.specs.declared.frames.Frames.{Frames}
 use Rattle.instruction.specs.declared.Turn.{Turn}
-use Rattle.instruction.specs.declared.Turn.TheVariants.{Next, Halt, Stop}
+use Rattle.instruction.specs.declared.Turn.TheVariants.{Next, Halt, Stop, Unlisted}
 use Rattle.std.specs.Prelude as std
 use Rattle.vm.specs.Run.{Step, next, halted, stop, apply, limited}
 use Rattle.vm.specs.Machine.{Lent, lend_run, Machine, sizes, keep_regs, keep_pc, keep_depth, keep_gc, view, laid}
@@ -86,9 +86,11 @@ abbrev pub turn_of : State → ℕ → List ℕ → Frames → Heap → Lent →
 turn_of s pc regs f h l (Next to) = record { how = goes; machine = machine_in s to regs f h l }
 turn_of s pc regs f h l Halt = record { how = halts; machine = machine_in s pc regs f h l }
 turn_of s pc regs f h l (Stop why) = record { how = stops (number_of_stop why); machine = machine_in s pc regs f h l }
+turn_of s pc regs f h l (Unlisted number) = record { how = stops number; machine = machine_in s pc regs f h l }
 
 -- a turn that stops by an anomaly, if it stops
 abbrev pub IsListed : Turn → Type 0
 IsListed (Next to) = Unit {0}
 IsListed Halt = Unit {0}
 IsListed (Stop why) = IsAnomaly why
+IsListed (Unlisted number) = ⊥

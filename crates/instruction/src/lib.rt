@@ -25,6 +25,8 @@ pub enum Turn {
     Next(usize),
     Halt,
     Stop(Stop),
+    // by any other number
+    Unlisted(u64),
 }
 
 fn stopped(why: Anomaly) -> Turn
@@ -174,6 +176,7 @@ pub fn apply(
         } => store(next, *base, *offset, *value, heap),
         Effect::Alloc { kind, dst, size } => alloc(next, *dst, *kind, *size, regs, heap),
         Effect::Stop(why) => Turn::Stop(*why),
+        Effect::Unlisted { number } => Turn::Unlisted(*number),
         Effect::Halt => Turn::Halt,
     }
 }

@@ -28,7 +28,7 @@ fn anomaly(why: Stop) -> Anomaly
 {
     match why {
         Stop::Anomaly(why) => why,
-        Stop::Refused(_) | Stop::Unlisted => unreachable!(),
+        Stop::Refused(_) => unreachable!(),
     }
 }
 
@@ -68,6 +68,7 @@ fn go(
                 let why = anomaly(why);
                 return End::Stopped { why, pc, steps };
             }
+            Turn::Unlisted(_) => unreachable!(),
         }
     }
     let steps = budget;

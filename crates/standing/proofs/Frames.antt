@@ -99,6 +99,7 @@ module _ (last : ℕ) (small : last < 65536) where
     apply_then (effect.Store base offset v) = provided_then _ 6 _ (λ r. h)
     apply_then (effect.Alloc kind dst size) = λ r. h
     apply_then (effect.Stop e) = λ r. h
+    apply_then (effect.Unlisted e) = λ r. h
     apply_then effect.Halt = tt
 
   -- a run

@@ -59,6 +59,7 @@ module _ (P : List ℕ → Memory → Type 0) where
     apply_every (effect.Store base offset v) = provided_every _ 6 c _ same (stores _ v)
     apply_every (effect.Alloc kind dst size) = takes dst (bits_of kind) size
     apply_every (effect.Stop e) = same
+    apply_every (effect.Unlisted e) = same
     apply_every effect.Halt = tt
 
 -- an instruction that stops by itself leaves all as it was
@@ -88,6 +89,7 @@ apply_stays (effect.Load dst base offset) c = provided_stays _ 6 c _
 apply_stays (effect.Store base offset v) c = provided_stays _ 6 c _
 apply_stays (effect.Alloc kind dst size) c = tt
 apply_stays (effect.Stop e) c = refl
+apply_stays (effect.Unlisted e) c = refl
 apply_stays effect.Halt c = tt
 
 -- ---- held to what is lent: it is kept, and fits

@@ -77,6 +77,7 @@ module _ (n : ℕ) (c : Core) (i : Inside n c) (more : c.pc + 1 < n) where
   apply_ok (effect.Store base offset v) o = provided_ok _ 6 _ refl (record { here = more; returns = i.returns })
   apply_ok (effect.Alloc kind dst size) o = record { here = more; returns = i.returns }
   apply_ok (effect.Stop why) o = anomaly_listed why o
+  apply_ok (effect.Unlisted number) o = absurd o
   apply_ok effect.Halt o = tt
 
 -- ---- held to what is lent: a run lacks frames or heap, and never slots

@@ -12,8 +12,7 @@ use Rattle.effects.specs.declared.Effect.{Effect}
 use Rattle.effects.specs.declared.Effect.TheVariants as effect
 use Rattle.vm.specs.Core.{Core, Sizes, used, short, set_reg, set_pc, set_frames, set_memory, set_pages, set_bytes}
 use Rattle.program.specs.Image.{Image}
-use Rattle.effects.specs.declared.Stop.TheVariants.{Unlisted}
-use Rattle.effects.specs.Stops.{number_of_stop}
+use Rattle.effects.specs.Stops.{number_of_stop, unlisted}
 use Rattle.effects.specs.Effect.{word_effect}
 
 -- what an instruction comes to: a further core, a Halt, or an end with the core that it leaves
@@ -62,12 +61,13 @@ apply (effect.Store base offset v) c =
     (forward (set_memory (set_pages (stored8 (base + offset) v c.memory.pages) c.memory) c))
 apply (effect.Alloc kind dst size) c = block_to dst c (allocated page_size (bits_of kind) size c.memory.pages)
 apply (effect.Stop why) c = stop (number_of_stop why) c
+apply (effect.Unlisted number) c = stop number c
 apply effect.Halt c = halted
 
 -- the effect of the word at the pc
 unfoldable pub fetched : Bool → Image → Core → Effect
 fetched true im c = word_effect im c.regs (decode_of (get_or im.code c.pc 0))
-fetched false im c = effect.Stop Unlisted
+fetched false im c = effect.Unlisted unlisted
 
 -- what the word at the pc asks for
 unfoldable pub asked : Image → Core → Effect

@@ -1,7 +1,7 @@
 -- `instruction::apply` meets its contract. Assumes nothing.
 use Rattle.std.proofs.Common.{refl, sym}
 use Rattle.instruction.specs.Turn.{lend_in}
-use Rattle.instruction.proofs.Turns.{fitting, turn_skip, turn_goto, turn-stop, turn-halt}
+use Rattle.instruction.proofs.Turns.{fitting, turn_skip, turn_goto, turn-stop, turn_unlisted, turn-halt}
 use Rattle.instruction.proofs.apply.Goals as goal
 
 pub returns-in-Set-clause-turned : goal.returns-in-Set-clause-turned
@@ -33,6 +33,10 @@ returns-in-Alloc-clause-turned c = λ s l. rw c.in-Alloc.is (c.alloc.ensures.tur
 pub returns-in-Stop-clause-turned : goal.returns-in-Stop-clause-turned
 returns-in-Stop-clause-turned c =
     λ s l. rw c.in-Stop.is (sym (turn-stop s _ _ (lend_in c.args.frames.now c.args.heap.now l) (fitting _ c.args.frames.now c.args.heap.now l) _))
+
+pub returns-in-Unlisted-clause-turned : goal.returns-in-Unlisted-clause-turned
+returns-in-Unlisted-clause-turned c =
+    λ s l. rw c.in-Unlisted.is (sym (turn_unlisted s _ _ (lend_in c.args.frames.now c.args.heap.now l) (fitting _ c.args.frames.now c.args.heap.now l) _))
 
 pub returns-in-Halt-clause-turned : goal.returns-in-Halt-clause-turned
 returns-in-Halt-clause-turned c =

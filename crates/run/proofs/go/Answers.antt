@@ -35,6 +35,12 @@ returns-in-Stop-clause-finished c =
     λ s l. rw c.anomaly-why.ensures (stopped_here _ ok _ _ _ _ _ _ _ _ c.loop-steps.invariant.0 c.loop-steps-test.true s l _ _
     (rw (c.word_effect-effect.ensures, c.code-code.ensures, c.in-Stop.is) at (c.apply.ensures.turned s l)))
 
+pub unreachable-requires : goal.unreachable-requires
+unreachable-requires c =
+    let ok = loaded_by _ c.requires.passed (let h = c.loop-steps.invariant.0.here in omega arith) in
+    rw c.in-Unlisted.is at (c.apply.ensures.listed
+    (rw (c.word_effect-effect.ensures, c.code-code.ensures) (asks_listed _ ok _ _ _ _ _ _ _ _ c.loop-steps.invariant.0)))
+
 pub loop-steps-preserved : goal.loop-steps-preserved
 loop-steps-preserved c =
     let ok = loaded_by _ c.requires.passed (let h = c.loop-steps.invariant.0.here in omega arith) in (
