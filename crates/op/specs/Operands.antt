@@ -1,10 +1,14 @@
 -- What is known of a word that is decoded: what its parts hold, and what they name once an image may hold it. Definitions only.
-use Rattle.std.specs.Prelude.{◌≡◌, ℕ, ◌^◌, ◌<◌, true}
+use Rattle.std.specs.Prelude.{◌≡◌, ℕ, ◌^◌, ◌<◌, true, Ok}
 use Rattle.op.specs.Layout.{Parts, is_alignment, Field, unused, register, switchKind, allocKind, alignment, anyByte, anyNumber}
 use Rattle.op.specs.Layout.{Reach, nothing, jump, function, global, switchTable, lookupTable}
-use Rattle.op.specs.Decode.{Row, row, absent}
+use Rattle.op.specs.Decode.{Row, row, absent, decode_of}
 use Rattle.op.specs.declared.Op.{Op}
 use Rattle.op.specs.declared.Counts.{Counts}
+
+-- an instruction that some word means
+abbrev pub Instruction : Op → Type 0
+Instruction op = (w : ℕ) × (decode_of w ≡ Ok op)
 
 -- what a field says of its part
 abbrev pub Holds : Field → ℕ → Type 0
