@@ -1,4 +1,4 @@
-// Lent memory: little-endian numbers in bytes, and copies. Every write to the heap goes through these.
+// Lent memory: little-endian numbers in bytes, and copies. Every write to the heap goes through these, but for the zeros of a new page.
 #![tactic(auto)]
 
 ghost use Rattle.std.specs.Prelude.{◌≡◌, ◌+◌, ◌≤◌, ◌<◌, ◌^◌, length};
