@@ -43,12 +43,12 @@ packed-unpacked w room =
     ) (simp append_assoc))
 
 -- a state written over words: what lies behind it stays
-over_packed : (s : State) (w : List ℕ) → length s.regs ≡ 32 → state_words ≤ length w → over (packed s) w ≡ packed s ++ drop state_words w
+pub over_packed : (s : State) (w : List ℕ) → length s.regs ≡ 32 → state_words ≤ length w → over (packed s) w ≡ packed s ++ drop state_words w
 over_packed s w regs room =
     let size : length (packed s) ≡ state_words = length-packed s regs in
     over-is (packed s) w (rw size room) ∙ ap (λ (n : ℕ). packed s ++ drop n w) size
 
-registers : (w : List ℕ) → state_words ≤ length w → length (unpacked w).regs ≡ 32
+pub registers : (w : List ℕ) → state_words ≤ length w → length (unpacked w).regs ≡ 32
 unfolding unpacked
 registers w room = length-take-le 32 w (omega arith)
 
@@ -71,7 +71,7 @@ module _ (s : State) (w : List ℕ) (regs : length s.regs ≡ 32) (room : state_
   first_room : state_words ≤ length (s.regs ++ drop 32 w)
   first_room = rw (length-append, length-drop, regs) (omega arith)
 
-  pub begun_room : state_words ≤ length begun
+  begun_room : state_words ≤ length begun
   begun_room = rw (length-set, length-set) first_room
 
   pub packed-home : over (packed (in_state (unpacked begun) (names_of s))) begun ≡ over (packed s) w
@@ -102,11 +102,10 @@ behind p q k e = ap (λ (n : ℕ). get_or (p ++ q) (n + k) 0) (sym e) ∙ get_or
 pub unpack_pack : (s : State) (w : List ℕ) → length s.regs ≡ 32 → state_words ≤ length w → unpacked (over (packed s) w) ≡ s
 unfolding packed unpacked
 unpack_pack s w long room =
-    let size : length (packed s) ≤ length w = rw (length-packed s long) room in
-    let q : List ℕ = numbers s ++ drop (length (packed s)) w in
+    let q : List ℕ = numbers s ++ drop state_words w in
     let r = s.regs in
     rw (
-      over-is (packed s) w size,
+      over_packed s w long room,
       append_assoc s.regs (numbers s),
       take_at r q 32 long,
       behind r q 0 long,

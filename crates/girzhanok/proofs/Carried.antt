@@ -5,7 +5,6 @@ use mathlib.Core.Option.{Option, none, some}
 use mathlib.Core.List.{List}
 use native.Mathlib.Omega.{arith}
 use lib.ListN.{length, length-replicate}
-use lib.Seq.{length-take-le}
 use borrow.Author.Tests.{le-leb}
 use Rattle.program.specs.Image.{Image}
 use Rattle.vm.specs.declared.State.{State}
@@ -17,7 +16,7 @@ use Rattle.vm.proofs.Registers.{call_same}
 use Rattle.answers.specs.Words.{state_words, unpacked}
 use Rattle.answers.specs.Answered.{kept}
 use Rattle.girzhanok.specs.Served.{left, within, serve, serve_start}
-use Rattle.answers.proofs.Packing.{unpack_pack}
+use Rattle.answers.proofs.Packing.{registers, unpack_pack}
 
 -- ---- words
 
@@ -29,10 +28,6 @@ kept_case (ended e pc steps) s words room long same = unpack_pack s words long r
 kept_case (value v) s words room long same = unpack_pack s words long room
 kept_case done s words room long same = unpack_pack s words long room
 kept_case (refused e) s words room long same = sym (same e refl)
-
-registers : (w : List ℕ) → state_words ≤ length w → length (unpacked w).regs ≡ 32
-unfolding unpacked
-registers w room = length-take-le 32 w (omega arith)
 
 pub carried : (k : Call) (words old : List ℕ) (l : Lent) → state_words ≤ length words
     → unpacked (serve k words old l).words ≡ (perform k (machine_of (unpacked words) l)).machine.state

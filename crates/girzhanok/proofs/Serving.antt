@@ -9,7 +9,6 @@ use lib.Seq.{length-take-le}
 use Rattle.std.specs.Array.{IsFirstChunk}
 use Rattle.std.proofs.lemmas.List.{get_or-take, take-take, take-append-drop}
 use Rattle.memory.specs.Lists.{over}
-use Rattle.memory.proofs.Over.{over-is}
 use lib.Dec.{leb}
 use borrow.Author.Tests.{le-leb, lt-leb}
 use Rattle.program.specs.Image.{Image, failing}
@@ -20,7 +19,7 @@ use Rattle.vm.proofs.Ends.{refusal_changes_nothing}
 use Rattle.vm.proofs.Registers.{call_same}
 use Rattle.answers.specs.Words.{state_words, packed, unpacked}
 use Rattle.answers.specs.Answered.{number_of, answered, kept}
-use Rattle.answers.proofs.Packing.{over_whole, length-packed}
+use Rattle.answers.proofs.Packing.{over_whole, length-packed, over_packed, registers}
 use Rattle.girzhanok.specs.Served.{served_of, left, within, serve, serve_start}
 
 -- ---- the first forty words, lent as an array, and the words behind them
@@ -43,19 +42,14 @@ unpacked-front words =
 module _ (s : State) (words : List ℕ) (room : state_words ≤ length words) (regs : length s.regs ≡ 32) where
   over-front : over (packed s) (take state_words words) ++ drop state_words words ≡ over (packed s) words
   over-front =
-      let size : length (packed s) ≡ state_words = length-packed s regs in
-      let fits : length (packed s) ≤ length words = omega (arith, size) in
-      rw (over_whole (packed s) (take state_words words) (size ∙ sym (length-take-le state_words words room)), over-is (packed s) words fits, size) refl
+      rw (over_whole (packed s) (take state_words words) (length-packed s regs ∙ sym (length-take-le state_words words room)))
+      (sym (over_packed s words regs room))
 
   pub kept-front : (a : Answer) → kept a s (take state_words words) ++ drop state_words words ≡ kept a s words
   kept-front (ended e pc steps) = over-front
   kept-front (value v) = over-front
   kept-front done = over-front
   kept-front (refused e) = take-append-drop state_words words
-
-registers : (words : List ℕ) → state_words ≤ length words → length (unpacked words).regs ≡ 32
-unfolding unpacked
-registers words room = length-take-le 32 words (omega arith)
 
 -- what a call on those words comes to
 module _ (words old : List ℕ) (l : Lent) (room : state_words ≤ length words) (c d : Called) (same : c ≡ d) (regs : length d.machine.state.regs ≡ 32) where
