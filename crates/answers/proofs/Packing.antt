@@ -6,7 +6,7 @@ use native.Mathlib.Omega.{arith}
 use lib.ListN.{length, take, drop, get_or, set, length-append, length-drop, length-set}
 use lib.Seq.{take-suc, take_at, get_or-append-add, length-take-le}
 use borrow.Rule.Slice.PartMut.{put_mid}
-use Rattle.std.proofs.lemmas.List.{take-set-le, get_or-set_same, get_or-set_other, drop-drop, drop-set-lt}
+use Rattle.std.proofs.lemmas.List.{take-set-le, get_or-set_same, get_or-set_other, drop_at, drop-drop, drop-set-lt}
 use Rattle.std.proofs.lemmas.Slice.{drop-append-drop}
 use Rattle.memory.specs.Lists.{over}
 use Rattle.memory.proofs.Over.{over-take, over-is}
@@ -63,10 +63,14 @@ names-home w v n room e =
     (sym (over_packed (in_state (unpacked w) n) w (registers w room) room ∙ ap (λ (r : List ℕ). r ++ drop 40 w) front
     ∙ append_assoc (take 34 w) (names n.gc n.strings) (drop 40 w)))
 
+-- the registers of a state before other words, with pc and depth written over the first two of these
+abbrev begun_on : State → List ℕ → List ℕ
+begun_on s d = set (set (s.regs ++ d) 32 s.pc) 33 s.depth
+
 -- a state, of which registers, pc and depth are there and the numbers of heap and table are written last
 module _ (s : State) (w : List ℕ) (regs : length s.regs ≡ 32) (room : state_words ≤ length w) where
   abbrev begun : List ℕ
-  begun = set (set (s.regs ++ drop 32 w) 32 s.pc) 33 s.depth
+  begun = begun_on s (drop 32 w)
 
   first_room : state_words ≤ length (s.regs ++ drop 32 w)
   first_room = rw (length-append, length-drop, regs) (omega arith)
@@ -74,9 +78,9 @@ module _ (s : State) (w : List ℕ) (regs : length s.regs ≡ 32) (room : state_
   begun_room : state_words ≤ length begun
   begun_room = rw (length-set, length-set) first_room
 
-  pub packed-home : over (packed (in_state (unpacked begun) (names_of s))) begun ≡ over (packed s) w
+  pub packed-home-front : over (packed (in_state (unpacked begun) (names_of s))) begun ≡ over (packed s) w
   unfolding packed unpacked
-  packed-home =
+  packed-home-front =
       let all = s.regs ++ drop 32 w in
       let wide : 40 ≤ length all = first_room in
       let first : take 32 begun ≡ s.regs =
@@ -91,6 +95,15 @@ module _ (s : State) (w : List ℕ) (regs : length s.regs ≡ 32) (room : state_
       ∙ drop-append-drop 32 w s.regs 40 (omega arith) regs in
       over_packed (in_state (unpacked begun) (names_of s)) begun (registers begun begun_room) begun_room
       ∙ rw (same, behind) (sym (over_packed s w regs room))
+
+-- over words that hold no more than the state, and whatever stood in the last eight
+pub packed-home : (s : State) (d w : List ℕ) → length s.regs ≡ 32 → length d ≡ 8 → length w ≡ 40
+    → over (packed (in_state (unpacked (begun_on s d)) (names_of s))) (begun_on s d) ≡ over (packed s) w
+packed-home s d w regs rest long =
+    let all = s.regs ++ d in
+    let size : length all ≡ 40 = length-append s.regs d ∙ omega (arith, regs, rest) in
+    let packs : (v : List ℕ) → length v ≡ 40 → over (packed s) v ≡ packed s = λ v e. over_whole (packed s) v (length-packed s regs ∙ sym e) in
+    (rw (drop_at s.regs d 32 regs) at (packed-home-front s all regs (omega (arith, size)))) ∙ packs all size ∙ sym (packs w long)
 
 -- 'unchanged': the state that words hold, written over them
 pub pack_unpack : (w : List ℕ) → state_words ≤ length w → over (packed (unpacked w)) w ≡ w

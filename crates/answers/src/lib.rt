@@ -11,17 +11,17 @@ pub mod words;
 
 use anomaly::{End, Refusal, Steps};
 use vm::State;
-use words::Pack;
+use words::{Pack, PackFront, Words, unpack};
 
 // The number of what a call answers. What it left is written into the words of the state unless it was refused.
-pub fn answer<P: Pack>(called: Result<(), Refusal>, left: P, words: &mut [u64]) -> u64
+pub fn answer_front<P: PackFront>(called: Result<(), Refusal>, left: P, words: &mut [u64]) -> u64
     requires { state_words ≤ length words.old }
     ensures number { result ≡ number_of (answer_by (λ _. done) called) }
     ensures kept { words.new ≡ kept (answer_by (λ _. done) called) (P.leaves left (unpacked words.old)) words.old }
 {
     match called {
         Ok(()) => {
-            left.pack(words);
+            left.pack_front(words);
             // 0, of what is done as of a Halt
             End::HALT
         }
@@ -29,8 +29,8 @@ pub fn answer<P: Pack>(called: Result<(), Refusal>, left: P, words: &mut [u64]) 
     }
 }
 
-// `answer`, and the value where there is one.
-pub fn answer_value<P: Pack>(
+// `answer_front`, and the value where there is one.
+pub fn answer_value_front<P: PackFront>(
     called: Result<u64, Refusal>,
     left: P,
     words: &mut [u64],
@@ -45,7 +45,7 @@ pub fn answer_value<P: Pack>(
     if let Ok(v) = called {
         *to = v;
     }
-    answer(called.map(|_| ()), left, words)
+    answer_front(called.map(|_| ()), left, words)
 }
 
 // The same of a run: pc and steps of how it ended, and the number of that.
@@ -63,7 +63,7 @@ pub fn answer_run(
 {
     match called {
         Ok(end) => {
-            state.pack(words);
+            state.pack_front(words);
             *pc = end.pc();
             *steps = end.steps();
             end.number()
@@ -71,3 +71,36 @@ pub fn answer_run(
         Err(why) => why.number(),
     }
 }
+
+// `answer_front` over the words alone, of the state that they hold once `left` is packed into them.
+#[tactic(auto, using(crate::proofs::Packing::pack_unpack))]
+pub fn answer<P: Pack>(called: Result<(), Refusal>, left: P, words: &mut Words) -> u64
+    ensures number { result ≡ number_of (answer_by (λ _. done) called) }
+    ensures kept { words.new ≡ kept (answer_by (λ _. done) called) (P.leaves left (unpacked words.old)) words.old }
+{
+    if called.is_ok() {
+        left.pack(words);
+    }
+    answer_front(called, unpack(words), words)
+}
+
+// `answer_value_front` over the words alone, likewise.
+#[tactic(auto, using(crate::proofs::Packing::pack_unpack))]
+pub fn answer_value<P: Pack>(
+    called: Result<u64, Refusal>,
+    left: P,
+    words: &mut Words,
+    to: &mut u64,
+) -> u64
+    ensures number { result ≡ number_of (answer_by value called) }
+    ensures kept { words.new ≡ kept (answer_by value called) (P.leaves left (unpacked words.old)) words.old }
+    ensures answered { to.new ∷ [] ≡ answered (answer_by value called) (to.old ∷ []) }
+{
+    if called.is_ok() {
+        left.pack(words);
+    }
+    answer_value_front(called, unpack(words), words, to)
+}
+
+#[cfg(test)]
+mod tests;

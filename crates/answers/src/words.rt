@@ -10,6 +10,9 @@ use names::interner::Names;
 use str_table::StrTable;
 use vm::State;
 
+// The words of a state and none behind them.
+pub type Words = [u64; 40];
+
 // The numbers of heap and table, in words 34 to 39.
 pub fn unpack_names(words: &[u64]) -> Names
     requires { state_words ≤ length words.now }
@@ -46,31 +49,31 @@ pub fn unpack(words: &[u64]) -> State
 }
 
 // What a call leaves of a state: all of it, or the numbers of heap and table, which are what an interning changes.
-pub trait Pack: Copy {
+pub trait PackFront: Copy {
     // the state that this leaves, of the one from before
     ghost leaves: { Self → State → State };
 
     // Words past those of the state stay as they are: so a slice of 40 or more, and no array.
-    fn pack(self, words: &mut [u64])
+    fn pack_front(self, words: &mut [u64])
         requires { state_words ≤ length words.old }
         ensures { words.new ≡ over (packed (leaves self (unpacked words.old))) words.old };
 }
 
-impl Pack for State {
+impl PackFront for State {
     ghost leaves = { λ state before. state };
 
-    fn pack(self, words: &mut [u64]) {
+    fn pack_front(self, words: &mut [u64]) {
         words[..32].copy_from_slice(&self.regs);
         words[32] = self.pc as u64;
         words[33] = self.depth as u64;
-        Names::from(&self).pack(words);
+        Names::from(&self).pack_front(words);
     }
 }
 
-impl Pack for Names {
+impl PackFront for Names {
     ghost leaves = { λ names before. in_state before names };
 
-    fn pack(self, words: &mut [u64]) {
+    fn pack_front(self, words: &mut [u64]) {
         let Names { gc, strings } = self;
         words[34..40].copy_from_slice(&[
             gc.base,
@@ -80,5 +83,30 @@ impl Pack for Names {
             strings.active as u64,
             strings.len as u64,
         ]);
+    }
+}
+
+// The same over the words alone, for a type whose `pack` takes an array.
+pub trait Pack: Copy {
+    // the state that this leaves, of the one from before
+    ghost leaves: { Self → State → State };
+
+    fn pack(self, words: &mut Words)
+        ensures { words.new ≡ over (packed (leaves self (unpacked words.old))) words.old };
+}
+
+impl Pack for State {
+    ghost leaves = { λ state before. state };
+
+    fn pack(self, words: &mut Words) {
+        self.pack_front(words);
+    }
+}
+
+impl Pack for Names {
+    ghost leaves = { λ names before. in_state before names };
+
+    fn pack(self, words: &mut Words) {
+        PackFront::pack_front(self, words);
     }
 }

@@ -12,7 +12,7 @@ ghost use Rattle.girzhanok.specs.Served.{served_of, serve, serve_start};
 
 use anomaly::{Refusal, Steps};
 use answers::words::{unpack, unpack_names};
-use answers::{answer, answer_run, answer_value};
+use answers::{answer_front, answer_run, answer_value_front};
 use names::to_name::Small;
 use vm::start;
 
@@ -37,7 +37,7 @@ pub extern "C" fn girzhanok_start(
         return Refusal::SIZE;
     };
     match start::start(base, image, frames, heap, slots, spare) {
-        Ok(machine) => answer(Ok(()), machine, words),
+        Ok(machine) => answer_front(Ok(()), machine, words),
         Err(why) => why.number(),
     }
 }
@@ -77,7 +77,7 @@ pub extern "C" fn girzhanok_reset(state: &mut [u64], frames: &mut [u64]) -> u64
     };
     let mut machine = unpack(words);
     let called = machine.reset(frames);
-    answer(called, machine, words)
+    answer_front(called, machine, words)
 }
 
 #[unsafe(no_mangle)]
@@ -89,7 +89,7 @@ pub extern "C" fn girzhanok_set_pc(state: &mut [u64], pc: usize) -> u64
     };
     let mut machine = unpack(words);
     machine.set_pc(pc);
-    answer(Ok(()), machine, words)
+    answer_front(Ok(()), machine, words)
 }
 
 #[unsafe(no_mangle)]
@@ -101,7 +101,7 @@ pub extern "C" fn girzhanok_set_register(state: &mut [u64], number: usize, value
     };
     let mut machine = unpack(words);
     let called = machine.set_register(number, value);
-    answer(called, machine, words)
+    answer_front(called, machine, words)
 }
 
 // `kind` is a number: C can give any, and one that is no kind is refused by 13.
@@ -124,7 +124,7 @@ pub extern "C" fn girzhanok_allocate(
     };
     let mut machine = unpack(words);
     let called = machine.allocate(kind, align, size, heap);
-    answer_value(called, machine, words, value)
+    answer_value_front(called, machine, words, value)
 }
 
 // An option of `payload`, or of none. C has no Option: `some` says which.
@@ -146,7 +146,7 @@ pub extern "C" fn girzhanok_option(
     };
     let mut machine = unpack(words);
     let called = machine.new_option(some.then_some(payload), heap);
-    answer_value(called, machine, words, value)
+    answer_value_front(called, machine, words, value)
 }
 
 // The two internings: C has no generic one, and calls each by its name.
@@ -170,7 +170,7 @@ pub extern "C" fn girzhanok_intern(
     };
     let mut names = unpack_names(words);
     let called = names.intern(name, heap, slots, spare);
-    answer_value(called, names, words, value)
+    answer_value_front(called, names, words, value)
 }
 
 #[unsafe(no_mangle)]
@@ -194,5 +194,5 @@ pub extern "C" fn girzhanok_intern_small(
     };
     let mut names = unpack_names(words);
     let called = names.intern(Small { len, word }, heap, slots, spare);
-    answer_value(called, names, words, value)
+    answer_value_front(called, names, words, value)
 }

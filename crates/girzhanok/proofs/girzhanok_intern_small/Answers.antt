@@ -10,7 +10,7 @@ returns-in_default c = λ l. too_short _ _ _ _ c.in_default.ensures.cases
 pub returns : goal.returns
 returns c =
     λ l.
-    let told = c.answer_value.ensures in
+    let told = c.answer_value_front.ensures in
     let state = unpacked c.in-Some.words.now in
     served _ _ _ _ _ c.in-Some.ensures.cases state refl _ (rw c.unpack_names-names.ensures at (c.intern-called.ensures state l)) _ _ _
     told.number told.kept told.answered

@@ -9,4 +9,4 @@ pub returns : goal.returns
 returns c =
     λ l.
     let told = c.set_pc.ensures l in
-    served _ _ _ _ _ c.in-Some.ensures.cases _ c.unpack-machine.ensures _ told _ _ _ c.answer.ensures.number c.answer.ensures.kept (quiet _ _ _ told)
+    served _ _ _ _ _ c.in-Some.ensures.cases _ c.unpack-machine.ensures _ told _ _ _ c.answer_front.ensures.number c.answer_front.ensures.kept (quiet _ _ _ told)

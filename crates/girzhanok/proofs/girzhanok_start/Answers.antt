@@ -8,7 +8,7 @@ pub returns-in_default : goal.returns-in_default
 returns-in_default c = start-short _ _ _ _ c.in_default.ensures.cases
 
 pub returns-in-Ok : goal.returns-in-Ok
-returns-in-Ok c = start_served _ _ _ _ _ c.in-Some.ensures.cases _ c.in-Ok.ensures _ _ c.answer.ensures.number c.answer.ensures.kept
+returns-in-Ok c = start_served _ _ _ _ _ c.in-Some.ensures.cases _ c.in-Ok.ensures _ _ c.answer_front.ensures.number c.answer_front.ensures.kept
 
 pub returns-in-Err : goal.returns-in-Err
 unfolding blank

@@ -1,11 +1,11 @@
--- `answers::words::StatePack::pack` meets its contract. Assumes nothing.
+-- `answers::words::StatePackFront::pack_front` meets its contract. Assumes nothing.
 use mathlib.Core.Path.{◌≡◌, sym, ◌∙◌}
 use native.Mathlib.Omega.{arith}
 use lib.ListN.{length}
 use lib.Seq.{length-take-le}
 use borrow.Author.Rules.{rules}
-use Rattle.answers.proofs.Packing.{packed-home}
-use Rattle.answers.proofs.words.StatePack.pack.Goals as goal
+use Rattle.answers.proofs.Packing.{packed-home-front}
+use Rattle.answers.proofs.words.StatePackFront.pack_front.Goals as goal
 
 pub slice_bounds-copy_from_slice-end-2 : goal.slice_bounds-copy_from_slice-end-2
 slice_bounds-copy_from_slice-end-2 c = sym (length-take-le 32 c.args.words.now (omega arith))
@@ -18,5 +18,5 @@ copy_from_slice-requires c =
 pub returns : goal.returns
 returns c =
     let long : length c.args.self.regs ≡ 32 = search rules in
-    (rw (c.copy_from_slice.ensures.after, c.from.ensures) at c.pack.ensures)
-    ∙ packed-home c.args.self c.args.words.now long c.requires
+    (rw (c.copy_from_slice.ensures.after, c.from.ensures) at c.pack_front.ensures)
+    ∙ packed-home-front c.args.self c.args.words.now long c.requires
